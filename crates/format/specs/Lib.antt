@@ -1,0 +1,6 @@
+pub mod Words
+pub mod Places
+pub mod LookOver
+pub mod Faults
+pub mod Reading
+pub mod Line
