@@ -45,7 +45,7 @@ pub none-due : (t : Text) (x : Context) (s : Slot) (k n : ℕ) → ((last : Bool
 none-due t x s k n only never =
     misplaced _ x s _ _ (λ w more e. only _ w ∙ ne-eqb (kind w) n (λ same. never w (e ∙ ap (λ l. w ∷ l) (rest-is _ k w more e)) same))
 
-mask-only : (x : Context) (s : Slot) → Takes-mask s → (last : Bool) (w : ℕ) → may-stand x s last w ≡ eqb (kind w) 4
+pub mask-only : (x : Context) (s : Slot) → Takes-mask s → (last : Bool) (w : ℕ) → may-stand x s last w ≡ eqb (kind w) 4
 mask-only x (opening f) t last w = absurd t
 mask-only x starting t last w = absurd t
 mask-only x onesMask t last w = refl
@@ -146,7 +146,7 @@ right-reset t k w m m' here is-reset is e =
 
 -- ---- numbers
 
-number-only : (x : Context) (s : Slot) (least : ℤ) → Takes-number least s → (last : Bool) (w : ℕ) → may-stand x s last w ≡ eqb (kind w) 10
+pub number-only : (x : Context) (s : Slot) (least : ℤ) → Takes-number least s → (last : Bool) (w : ℕ) → may-stand x s last w ≡ eqb (kind w) 10
 number-only x (opening f) least t last w = absurd t
 number-only x starting least t last w = absurd t
 number-only x onesMask least t last w = absurd t

@@ -6,3 +6,7 @@ pub mod Begins
 pub mod Firsts
 pub mod Hands
 pub mod Files
+pub mod Passed
+pub mod Bodies
+pub mod Counted
+pub mod Within

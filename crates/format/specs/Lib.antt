@@ -3,4 +3,5 @@ pub mod Places
 pub mod LookOver
 pub mod Faults
 pub mod Reading
-pub mod Line
+pub mod Syntax
+pub mod Ranges

@@ -1,9 +1,7 @@
 // The look-over of a timing model and a zone list: are these two files well formed?
 mod fault;
-mod line;
 mod look;
 mod record;
-mod report;
 mod scope;
 mod text;
 
@@ -13,16 +11,11 @@ pub use fault::FileFromRecord;
 pub use fault::RecordFault;
 pub use fault::RecordFromWord;
 pub use fault::WordFault;
-pub use line::FileDisplay;
-pub use line::LayerDisplay;
-pub use line::Line;
-pub use line::LineDisplay;
-pub use line::SummaryDisplay;
 pub use look::Summary;
 pub use look::look_over;
-pub use report::Layer;
-pub use report::Report;
 pub use scope::File;
+pub use scope::FileDebug;
+pub use scope::FilePartialEq;
 pub use scope::Place;
 pub use scope::Record;
 pub use scope::Scope;

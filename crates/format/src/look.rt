@@ -12,6 +12,8 @@ ghost use Rattle.std.specs.declared.option.Option.the-variants.{Some};
 ghost use Rattle.format.specs.Places.File.{zones as zones-file};
 ghost use Rattle.format.specs.LookOver.{look-list};
 ghost use Rattle.format.specs.LookOver.Outcome.{pass};
+ghost use Rattle.std.specs.Vec.{made};
+ghost use Rattle.format.specs.Ranges.{Passed-files};
 ghost use Rattle.format.specs.Faults.{file-stop, file-told, counts, outcome};
 ghost use Rattle.format.specs.Reading.{walk-of, file-of, tally-of, head-of, Opened};
 use crate::fault::Fault;
@@ -166,9 +168,11 @@ fn look_list(head: u32, model: Tally, list: &[u8]) -> Result<Summary, FileFault>
     sum_up(head, model, listed)
 }
 
-// Looks two files over, the model first: what was read, or the first fault.
+// Looks two files over, the model first: what was read, or the first fault. Of two files that pass, all that they name is
+// within the ranges that the questions ask for, and the counts are those of the decoded files.
 pub fn look_over(model: &[u8], zones: &[u8]) -> Result<Summary, Fault>
-    ensures { λ r. ⌜ outcome r ≡ look-over (now (model .entry)) (now (zones .entry)) ⌝ }
+    ensures answer { λ r. ⌜ outcome r ≡ look-over (now (model .entry)) (now (zones .entry)) ⌝ }
+    ensures within { λ r. ⌜ made r (λ s. Passed-files (now (model .entry)) (now (zones .entry)) (counts s)) ⌝ }
 {
     let tally = match look_file(File::Model, None, model) {
         Ok(tally) => tally,

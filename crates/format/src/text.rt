@@ -44,6 +44,11 @@ const ATOM: u32 = 9;
 
 const NUMBER: u32 = 10;
 
+// The most atoms that a record may have, and the greatest number.
+const ATOMS: usize = 64;
+
+const GREATEST: i32 = 1_000_000;
+
 // Masks, resets, atoms and numbers continue a record.
 fn continues(word: u32) -> bool
     ensures { λ r. ⌜ r ≡ continues-of word ⌝ }
@@ -107,7 +112,7 @@ fn number_in(stored: u32, least: i32, place: usize) -> Result<i32, WordFault>
     ensures { λ r. ⌜ r ≡ eight (leZ least (pos stored -ℤ pos 134217728) && leZ (pos stored -ℤ pos 134217728) (pos 1000000)) place (pos stored -ℤ pos 134217728) ⌝ }
 {
     let number = stored as i32 - 134_217_728;
-    if number < least || number > 1_000_000 {
+    if number < least || number > GREATEST {
         return Err(WordFault::OutOfRange(place));
     }
     Ok(number)
@@ -221,10 +226,10 @@ impl Text<'_> {
         if urgent {
             return Err(RecordFault::UrgentAtom(place));
         }
-        if count >= 64 {
+        if count >= ATOMS {
             return Err(RecordFault::Surplus(place));
         }
-        self.number(k + 1, -1_000_000)?;
+        self.number(k + 1, -GREATEST)?;
         Ok(())
     }
 

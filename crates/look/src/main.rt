@@ -1,7 +1,7 @@
 // Looks a timing model and a zone list over, and prints one line: what was read, or the first fault.
-use format::Line;
-use format::LineDisplay;
 use format::look_over;
+use report::Line;
+use report::LineDisplay;
 use std::env;
 use std::fs::File;
 use std::io;

@@ -3,15 +3,15 @@ use Prim.Native.Nat.{ℕ}
 use mathlib.Core.List.{List, _++_}
 use lib.Chars.{codes}
 use Rattle.std.specs.Written.{decimal}
 use Rattle.format.specs.Places.{File}
 use Rattle.format.specs.Places.File.{model, zones}
 use Rattle.format.specs.LookOver.{Outcome, Layer, Counts}
 use Rattle.format.specs.LookOver.Outcome.{pass, fault}
 use Rattle.format.specs.LookOver.Layer.{file-layer, record-layer, word-layer}
 use Rattle.format.specs.Reading.{file-of}
-use Rattle.format.specs.declared.report.Report.{Report}
-use Rattle.format.specs.declared.report.Layer.{Layer as Told}
-use Rattle.format.specs.declared.report.Layer.the-variants.{File as ToldFile, Record as ToldRecord, Word as ToldWord}
+use Rattle.report.specs.declared.Report.{Report}
+use Rattle.report.specs.declared.Layer.{Layer as Told}
+use Rattle.report.specs.declared.Layer.the-variants.{File as ToldFile, Record as ToldRecord, Word as ToldWord}
 
 abbrev pub layer-at : Told → Layer
 layer-at ToldFile = file-layer
