@@ -1,0 +1,4 @@
+pub mod Integers
+pub mod Scales
+pub mod DenseLaws
+pub mod TickLaws
