@@ -61,6 +61,17 @@ mod tests {
     }
 
     #[test]
+    fn without_arguments_model_and_zones(rt: LibcRuntime) -> Result<(), Fail> {
+        fs::write(&rt, "MODEL", &[1u8])?;
+        fs::write(&rt, "ZONES", &[2u8, 3])?;
+        let (model, zones) = model_and_zones(&rt)?;
+        fs::remove_file(&rt, "MODEL")?;
+        fs::remove_file(&rt, "ZONES")?;
+        check_eq(model.len(), 1)?;
+        check_eq(zones.len(), 2)
+    }
+
+    #[test]
     fn a_missing_file_is_empty(rt: LibcRuntime) -> Result<(), Fail> {
         check_eq(contents(&rt, "no such file").len(), 0)?;
         check_eq(contents(&rt, ".").len(), 0)
