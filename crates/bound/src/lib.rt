@@ -1,4 +1,6 @@
-// Kinds of time: what a bound on the difference of two clocks means, and the two kinds dense and ticks.
+//! Kinds of time: what a bound on the difference of two clocks means, and the two kinds dense and ticks.
+#![tactic(auto)]
+
 mod dense;
 mod kind;
 mod ticks;

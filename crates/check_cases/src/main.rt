@@ -1,5 +1,7 @@
-// Puts small models and zone lists to the four checks, in dense time and in ticks, and prints a line for each case: the kind
-// of time, the case's name and the answer.
+//! Puts small models and zone lists to the four checks, in dense time and in ticks, and prints a line for each case: the kind
+//! of time, the case's name and the answer.
+#![tactic(auto)]
+
 ghost use Rattle.std.specs.Prelude.{◌≤◌};
 
 mod after;

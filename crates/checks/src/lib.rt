@@ -1,4 +1,6 @@
-// The four checks: the start, the bad, the time and the command check, for every kind of time.
+//! The four checks: the start, the bad, the time and the command check, for every kind of time.
+#![tactic(auto)]
+
 mod bad;
 mod calls;
 mod command;

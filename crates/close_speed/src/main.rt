@@ -1,4 +1,6 @@
-// Measures how many tables are closed in a second, and prints it to the standard error.
+//! Measures how many tables are closed in a second, and prints it to the standard error.
+#![tactic(auto)]
+
 mod timed;
 
 use bound::{Bound, Dense, Ticks};

@@ -1,4 +1,6 @@
-// The table of bounds, for every kind of time.
+//! The table of bounds, for every kind of time.
+#![tactic(auto)]
+
 mod calls;
 mod close;
 mod entries;

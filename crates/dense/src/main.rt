@@ -1,4 +1,6 @@
-// Settles the checks of a zone list in dense time, and prints one line.
+//! Settles the checks of a zone list in dense time, and prints one line.
+#![tactic(auto)]
+
 use bound::Bound;
 use files::model_and_zones;
 use sheet::{Call, Verdict, replay};

@@ -1,4 +1,6 @@
-// The two files that a program is run on. No contract can say what is read, so this is tested.
+//! The two files that a program is run on. No contract can say what is read, so this is tested.
+#![tactic(auto)]
+
 use std::fs::File;
 use std::io::Read;
 use std::{env, io};

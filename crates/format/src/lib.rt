@@ -1,4 +1,6 @@
-// The look-over of a timing model and a zone list: are these two files well formed?
+//! The look-over of a timing model and a zone list: are these two files well formed?
+#![tactic(auto)]
+
 mod fault;
 mod look;
 mod record;

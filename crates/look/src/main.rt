@@ -1,4 +1,6 @@
-// Looks a timing model and a zone list over, and prints one line: what was read, or the first fault.
+//! Looks a timing model and a zone list over, and prints one line: what was read, or the first fault.
+#![tactic(auto)]
+
 use files::model_and_zones;
 use format::look_over;
 use report::Line;

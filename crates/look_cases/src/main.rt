@@ -1,4 +1,6 @@
-// Looks the two-phase valve over after edits of its files, and prints a line for each case: its name and the answer.
+//! Looks the two-phase valve over after edits of its files, and prints a line for each case: its name and the answer.
+#![tactic(auto)]
+
 mod bits;
 mod bodies;
 mod case;

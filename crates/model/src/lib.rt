@@ -1,4 +1,6 @@
-// What a passed model means, and its records.
+//! What a passed model means, and its records.
+#![tactic(auto)]
+
 mod atoms;
 mod files;
 mod order;

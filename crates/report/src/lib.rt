@@ -1,4 +1,6 @@
-// The printed lines, and what is told of a fault.
+//! The printed lines, and what is told of a fault.
+#![tactic(auto)]
+
 ghost use Rattle.std.specs.Prelude.{◌≡◌, Some};
 ghost use Rattle.format.specs.Faults.{counts, outcome, told, file_told, record_told, word_told};
 ghost use Rattle.format.specs.Reading.{file_of};

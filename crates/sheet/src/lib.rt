@@ -1,4 +1,6 @@
-// The sheet.
+//! The sheet.
+#![tactic(auto)]
+
 mod answers;
 mod call;
 mod check;

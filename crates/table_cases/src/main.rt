@@ -1,4 +1,6 @@
-// Closes small zones, in dense time and in ticks, and prints a line for each case: its name and the answer.
+//! Closes small zones, in dense time and in ticks, and prints a line for each case: its name and the answer.
+#![tactic(auto)]
+
 mod large;
 mod small;
 mod zone;

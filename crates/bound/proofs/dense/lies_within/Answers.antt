@@ -13,10 +13,10 @@ at_strict a b s r t e f = subst (λ (u : Bool). Decides u (Within every (Made a 
 pub returns-then-a-b : goal.returns-then-a-b
 returns-then-a-b c =
     rw (to_z-of_z w64 c.args.a c.ranges.a, to_z-of_z w64 c.args.b c.ranges.b)
-    (decide_apart c.args.a c.args.b c.args.a-strict c.args.b-strict (λ e. c.if-a-b.true (ap (of_z w64) e)))
+    (decide_apart c.args.a c.args.b c.args.a_strict c.args.b_strict (λ e. c.if-a-b.true (ap (of_z w64) e)))
 
-pub returns-then-a-strict : goal.returns-then-a-strict
-returns-then-a-strict c = at_strict _ _ _ _ _ (same _ _ c.ranges.a c.ranges.b c.if-a-b.false) (ap (λ (s : Bool). s || not c.args.b-strict) c.if-a-strict.true ∙ sym c.if-a-strict.true)
+pub returns-then-a_strict : goal.returns-then-a_strict
+returns-then-a_strict c = at_strict _ _ _ _ _ (same _ _ c.ranges.a c.ranges.b c.if-a-b.false) (ap (λ (s : Bool). s || not c.args.b_strict) c.if-a_strict.true ∙ sym c.if-a_strict.true)
 
-pub returns-else-a-strict : goal.returns-else-a-strict
-returns-else-a-strict c = at_strict _ _ _ _ _ (same _ _ c.ranges.a c.ranges.b c.if-a-b.false) (ap (λ (s : Bool). s || not c.args.b-strict) c.if-a-strict.false)
+pub returns-else-a_strict : goal.returns-else-a_strict
+returns-else-a_strict c = at_strict _ _ _ _ _ (same _ _ c.ranges.a c.ranges.b c.if-a-b.false) (ap (λ (s : Bool). s || not c.args.b_strict) c.if-a_strict.false)

@@ -20,7 +20,7 @@ returns-in-Inconsistent g c =
     let r = guarded_in c.args.bad in
     let m = model_in c.args.files.now in
     let holds = condition_as _ _ _ _ c.condition.ensures c.booleans.ensures (c.holds.ensures.0 c.if-not-holds.false) in
-    let system = bad_system b.admits m z r c.requires.zone_fits c.requires.bad-fits holds in
+    let system = bad_system b.admits m z r c.requires.zone_fits c.requires.bad_fits holds in
     let first = poured_as b.admits b.allows b.size b.unbounded _ same _ z.atoms c.begin-table.result c.pour.new.table c.same_frame.ensures c.atoms.ensures c.pour.ensures in
     let second = poured_as b.admits b.allows b.size b.unbounded _ same _ r.atoms c.pour.new.table c.pour-2.new.table c.same_frame.ensures c.atoms-2.ensures c.pour-2.ensures in
     let both = adds_both b.admits b.allows b.size b.unbounded (λ k ν. All (Placed same k ν) z.atoms) (λ k ν. All (Placed same k ν) r.atoms) _ _ _ first second in
@@ -35,7 +35,7 @@ returns-in-Consistent g c =
     let r = guarded_in c.args.bad in
     let m = model_in c.args.files.now in
     let holds = condition_as _ _ _ _ c.condition.ensures c.booleans.ensures (c.holds.ensures.0 c.if-not-holds.false) in
-    let system = bad_system b.admits m z r c.requires.zone_fits c.requires.bad-fits holds in
+    let system = bad_system b.admits m z r c.requires.zone_fits c.requires.bad_fits holds in
     let first = poured_as b.admits b.allows b.size b.unbounded _ same _ z.atoms c.begin-table.result c.pour.new.table c.same_frame.ensures c.atoms.ensures c.pour.ensures in
     let second = poured_as b.admits b.allows b.size b.unbounded _ same _ r.atoms c.pour.new.table c.pour-2.new.table c.same_frame.ensures c.atoms-2.ensures c.pour-2.ensures in
     let both = adds_both b.admits b.allows b.size b.unbounded (λ k ν. All (Placed same k ν) z.atoms) (λ k ν. All (Placed same k ν) r.atoms) _ _ _ first second in
@@ -58,5 +58,5 @@ pour-requires-2 g c =
     let e = c.begin-table.ensures in
     record {
       is_open = c.pour.ensures.is_open;
-      fit = fit_atoms h c.requires.passed.model.few_clocks (c.clocks.result + 1) _ _ same (roomy_same h.clocks _ (omega (arith, c.clocks.ensures))) c.same_frame.ensures (c.pour.ensures.same_rows ∙ e.rows_are) _ _ c.atoms-2.ensures c.requires.bad-fits.atoms.each;
+      fit = fit_atoms h c.requires.passed.model.few_clocks (c.clocks.result + 1) _ _ same (roomy_same h.clocks _ (omega (arith, c.clocks.ensures))) c.same_frame.ensures (c.pour.ensures.same_rows ∙ e.rows_are) _ _ c.atoms-2.ensures c.requires.bad_fits.atoms.each;
     }

@@ -14,12 +14,12 @@ returns g c =
     let z₀ = zone_in c.in-ok-part.part in
     let g₀ = guarded_in c.in-Some.record in (
       record_there p _ c.args.zone m.bads c.args.bad g₀ asked.unrefused c.in-Some.ensures,
-      λ z r listed named. of_listed (λ q. Decides c.none-meets.result (BadCheck g.B.Bound.admits m q r)) (zones_in p) c.args.zone z₀ z asked.listed listed
-          (of_listed (λ q. Decides c.none-meets.result (BadCheck g.B.Bound.admits m z₀ q)) m.bads c.args.bad g₀ r c.in-Some.ensures named c.none-meets.ensures),
+      λ z r listed named. of_listed (λ q. Decides c.none_meets.result (BadCheck g.B.Bound.admits m q r)) (zones_in p) c.args.zone z₀ z asked.listed listed
+          (of_listed (λ q. Decides c.none_meets.result (BadCheck g.B.Bound.admits m z₀ q)) m.bads c.args.bad g₀ r c.in-Some.ensures named c.none_meets.ensures),
     )
 
-pub none-meets-requires : goal.none-meets-requires
-none-meets-requires g c =
+pub none_meets-requires : goal.none_meets-requires
+none_meets-requires g c =
     let asked = c.in-ok-part.ensures in
     record {
       passed = asked.ranged;

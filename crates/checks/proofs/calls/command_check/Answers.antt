@@ -13,12 +13,12 @@ returns g c =
     let z₀ = zone_in c.in-ok-part.part in
     let c₀ = command_in c.in-Some.record in (
       record_there p _ c.args.zone m.commands c.args.command c₀ asked.unrefused c.in-Some.ensures,
-      λ z k listed named. of_listed (λ q. Names (CoversCommand g.B.Bound.admits m q k) c.args.struck.now (zones_in p) c.cover-command.result) (zones_in p) c.args.zone z₀ z asked.listed listed
-          (of_listed (λ q. Names (CoversCommand g.B.Bound.admits m z₀ q) c.args.struck.now (zones_in p) c.cover-command.result) m.commands c.args.command c₀ k c.in-Some.ensures named c.cover-command.ensures),
+      λ z k listed named. of_listed (λ q. Names (CoversCommand g.B.Bound.admits m q k) c.args.struck.now (zones_in p) c.cover_command.result) (zones_in p) c.args.zone z₀ z asked.listed listed
+          (of_listed (λ q. Names (CoversCommand g.B.Bound.admits m z₀ q) c.args.struck.now (zones_in p) c.cover_command.result) m.commands c.args.command c₀ k c.in-Some.ensures named c.cover_command.ensures),
     )
 
-pub cover-command-requires : goal.cover-command-requires
-cover-command-requires g c =
+pub cover_command-requires : goal.cover_command-requires
+cover_command-requires g c =
     let asked = c.in-ok-part.ensures in
     record {
       passed = asked.ranged;

@@ -9,10 +9,10 @@ pub returns : goal.returns
 returns g c =
     let asked = c.in-ok-part.ensures in
     let p = c.args.files.now in
-    (asked.unrefused, λ z listed. of_listed (λ q. Names (CoversTime g.B.Bound.admits (model_in p) q) c.args.struck.now (zones_in p) c.cover-time.result) (zones_in p) c.args.zone _ z asked.listed listed c.cover-time.ensures)
+    (asked.unrefused, λ z listed. of_listed (λ q. Names (CoversTime g.B.Bound.admits (model_in p) q) c.args.struck.now (zones_in p) c.cover_time.result) (zones_in p) c.args.zone _ z asked.listed listed c.cover_time.ensures)
 
-pub cover-time-requires : goal.cover-time-requires
-cover-time-requires g c =
+pub cover_time-requires : goal.cover_time-requires
+cover_time-requires g c =
     let asked = c.in-ok-part.ensures in
     record {
       passed = asked.ranged;

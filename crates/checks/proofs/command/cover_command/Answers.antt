@@ -33,11 +33,11 @@ returns g c =
     let z = zone_in c.args.zone in
     let k = command_in c.args.command in
     let to = c.after-to.ensures ∙ ap after c.resets.ensures in
-    let booleans = c.booleans-after-booleans.ensures ∙ ap (booleans_after_command k) c.booleans-before.ensures in
+    let booleans = c.booleans_after-booleans.ensures ∙ ap (booleans_after_command k) c.booleans-before.ensures in
     let holds = condition_as _ _ _ _ c.condition.ensures c.booleans-before.ensures (c.holds.ensures.0 c.if-not-holds.false) in
     let zone = poured_as b.admits b.allows b.size b.unbounded _ same _ z.atoms c.begin-table.result c.pour.new.table c.same-from.ensures c.atoms.ensures c.pour.ensures in
     let guard = poured_as b.admits b.allows b.size b.unbounded _ same _ k.atoms c.pour.new.table c.pour-2.new.table c.same-from.ensures c.atoms-2.ensures c.pour-2.ensures in
-    let invariant = invariant_as b.admits b.allows b.size b.unbounded _ (after k.resets) _ (booleans_after_command k z.booleans) _ m.invariants c.pour-2.new.table c.pour-invariant.new.table to booleans c.invariants.ensures c.pour-invariant.ensures in
+    let invariant = invariant_as b.admits b.allows b.size b.unbounded _ (after k.resets) _ (booleans_after_command k z.booleans) _ m.invariants c.pour-2.new.table c.pour_invariant.new.table to booleans c.invariants.ensures c.pour_invariant.ensures in
     let adds = poured_command b.admits b.allows b.size b.unbounded m z k _ _ _ _ zone guard invariant in
     let names = named_as b.admits b.allows b.size b.unbounded c.close-answer.result.0 c.close-answer.result.1 _ (after k.resets) _ (booleans_after_command k z.booleans) c.args.struck.now _ (zones_in c.args.files.now) c.cover.result to booleans c.zones-2.ensures c.cover.ensures in
     names_same (CoversCommand b.admits m z k) (Covered b.admits b.allows b.size b.unbounded c.close-answer.result.0 c.close-answer.result.1 (after k.resets) (booleans_after_command k z.booleans)) c.args.struck.now (zones_in c.args.files.now) c.cover.result
@@ -64,8 +64,8 @@ pour-requires-2 g c =
       fit = fit_atoms h c.requires.passed.model.few_clocks (n + 1) c.pour.new.table.n _ same (roomy_same h.clocks (n + 1) (omega (arith, c.clocks.ensures))) c.same-from.ensures (c.pour.ensures.same_rows ∙ c.begin-table.ensures.rows_are) _ _ c.atoms-2.ensures c.requires.command_fits.atoms.each;
     }
 
-pub pour-invariant-requires : goal.pour-invariant-requires
-pour-invariant-requires g c =
+pub pour_invariant-requires : goal.pour_invariant-requires
+pour_invariant-requires g c =
     let h = head_in c.args.files.now in
     let n = c.clocks.result in
     let k = command_in c.args.command in
@@ -80,7 +80,7 @@ cover-requires g c =
     let h = head_in c.args.files.now in
     let n = c.clocks.result in
     let k = command_in c.args.command in
-    let rows = c.close-answer.ensures.same_rows ∙ c.pour-invariant.ensures.same_rows ∙ c.pour-2.ensures.same_rows ∙ c.pour.ensures.same_rows ∙ c.begin-table.ensures.rows_are in
+    let rows = c.close-answer.ensures.same_rows ∙ c.pour_invariant.ensures.same_rows ∙ c.pour-2.ensures.same_rows ∙ c.pour.ensures.same_rows ∙ c.begin-table.ensures.rows_are in
     record {
       told = told_by b.admits b.allows b.size b.unbounded c.close-answer.result.0 _ _ c.close-answer.ensures;
       fit = fit_zones h c.requires.passed.model.few_clocks (n + 1) c.close-answer.result.1.n _ (after k.resets) (roomy_after h h.clocks (n + 1) k.resets (omega (arith, c.clocks.ensures)) c.requires.command_fits.resets) (c.after-to.ensures ∙ ap after c.resets.ensures) rows _ _ c.zones-2.ensures c.requires.passed.zones.zones;

@@ -18,5 +18,5 @@ loop-record-init c = (refl, c.requires)
 pub returns-in-End : goal.returns-in-End
 returns-in-End c =
     let h = c.in-ok-record.ensures in
-    let ended = subst (λ (r : Record). WalksOn r c.loop-record.place c.next-record.new.self c.loop-record.rest.now c.in-ok-record.unread.now) c.in-End.is (h.walks c.loop-record.invariant.1) in
+    let ended = subst (λ (r : Record). WalksOn r c.loop-record.place c.next_record.new.self c.loop-record.rest.now c.in-ok-record.unread.now) c.in-End.is (h.walks c.loop-record.invariant.1) in
     c.loop-record.invariant.0 ∙ end_passes c.in-End.field-0 _ _ _ _ ended

@@ -9,4 +9,4 @@ returns-then-k-bytes c = no_word _ _ c.if-k-bytes.true
 pub returns : goal.returns
 returns c =
     word_bytes c.args.k c.args.bytes.now (omega arith)
-    ∙ ap (λ (w : ℕ). w ∷ drop (c.args.k + 1) (words c.args.bytes.now)) (sym c.from-be-bytes.ensures)
+    ∙ ap (λ (w : ℕ). w ∷ drop (c.args.k + 1) (words c.args.bytes.now)) (sym c.from_be_bytes.ensures)

@@ -11,4 +11,4 @@ pub returns-in-Limit-Limit : goal.returns-in-Limit-Limit
 returns-in-Limit-Limit c =
     let p : SFits w64 c.in-Limit-Limit.a = search rules in
     let q : SFits w64 c.in-Limit-Limit.b = search rules in
-    rw (c.in-Limit-Limit.is-0, c.in-Limit-Limit.is-1) (moved _ _ _ _ c.in-Limit-Limit.a-strict c.in-Limit-Limit.b-strict _ (to_z-of_z w64 c.in-Limit-Limit.a p) (to_z-of_z w64 c.in-Limit-Limit.b q) c.lies-within.ensures)
+    rw (c.in-Limit-Limit.is-0, c.in-Limit-Limit.is-1) (moved _ _ _ _ c.in-Limit-Limit.a_strict c.in-Limit-Limit.b_strict _ (to_z-of_z w64 c.in-Limit-Limit.a p) (to_z-of_z w64 c.in-Limit-Limit.b q) c.lies_within.ensures)

@@ -11,4 +11,4 @@ pub returns-in-Limit-Limit : goal.returns-in-Limit-Limit
 returns-in-Limit-Limit c =
     let p : SFits w64 c.in-Limit-Limit.a = search rules in
     let q : SFits w64 c.in-Limit-Limit.b = search rules in
-    rw (c.in-Limit-Limit.is-0, c.in-Limit-Limit.is-1) (simp to_z-of_z at c.lies-within.ensures)
+    rw (c.in-Limit-Limit.is-0, c.in-Limit-Limit.is-1) (simp to_z-of_z at c.lies_within.ensures)

@@ -7,10 +7,10 @@ pub returns-in-Limit-Limit : goal.returns-in-Limit-Limit
 returns-in-Limit-Limit c =
     let p : SFits w64 c.in-Limit-Limit.a = search rules in
     let q : SFits w64 c.in-Limit-Limit.b = search rules in
-    let e = simp to_z-of_z at c.limit-sum.ensures in
+    let e = simp to_z-of_z at c.limit_sum.ensures in
     record {
-      meaning = sum_meaning c.args.self c.args.other c.limit-sum.result _ _ c.in-Limit-Limit.is-0 c.in-Limit-Limit.is-1 e;
-      small = sum_small c.args.self c.args.other c.limit-sum.result _ _ c.in-Limit-Limit.is-0 c.in-Limit-Limit.is-1 e;
+      meaning = sum_meaning c.args.self c.args.other c.limit_sum.result _ _ c.in-Limit-Limit.is-0 c.in-Limit-Limit.is-1 e;
+      small = sum_small c.args.self c.args.other c.limit_sum.result _ _ c.in-Limit-Limit.is-0 c.in-Limit-Limit.is-1 e;
     }
 
 pub returns-in-Limit-Unbounded : goal.returns-in-Limit-Unbounded

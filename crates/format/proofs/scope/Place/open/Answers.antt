@@ -3,17 +3,17 @@ use Rattle.format.proofs.Cuts.{length_words}
 use Rattle.format.proofs.Files.{wrong_end, opened}
 use Rattle.format.proofs.scope.Place.open.Goals as goal
 
-pub ends-at-requires : goal.ends-at-requires
-ends-at-requires c = omega (arith, length_words c.args.bytes.now)
+pub ends_at-requires : goal.ends_at-requires
+ends_at-requires c = omega (arith, length_words c.args.bytes.now)
 
-pub returns-then-not-ends-at : goal.returns-then-not-ends-at
-returns-then-not-ends-at c =
-    rw (← length_words c.args.bytes.now) (wrong_end c.args.file c.args.like c.args.bytes.now (omega arith) (omega arith) (omega arith) (sym c.if-not-ends-at.ensures))
+pub returns-then-not-ends_at : goal.returns-then-not-ends_at
+returns-then-not-ends_at c =
+    rw (← length_words c.args.bytes.now) (wrong_end c.args.file c.args.like c.args.bytes.now (omega arith) (omega arith) (omega arith) (sym c.if-not-ends_at.ensures))
 
-pub right-head-requires : goal.right-head-requires
-right-head-requires c = omega (arith, length_words c.args.bytes.now)
+pub right_head-requires : goal.right_head-requires
+right_head-requires c = omega (arith, length_words c.args.bytes.now)
 
 pub returns-in-Some : goal.returns-in-Some
 returns-in-Some c =
     let told = c.in-Some.ensures in
-    opened c.args.file c.args.like c.args.bytes.now (omega arith) (omega arith) (omega arith) c.in-Some.scope (sym c.if-not-ends-at.ensures) told.0 told.1 (told.2 ∙ sym (length_words c.args.bytes.now))
+    opened c.args.file c.args.like c.args.bytes.now (omega arith) (omega arith) (omega arith) c.in-Some.scope (sym c.if-not-ends_at.ensures) told.0 told.1 (told.2 ∙ sym (length_words c.args.bytes.now))

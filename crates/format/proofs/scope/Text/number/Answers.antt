@@ -14,11 +14,11 @@ pub returns-in-err-number : goal.returns-in-err-number
 returns-in-err-number c =
     let e = c.in-ok-stored.ensures in
     exit _ _ _ _ c.from-residual-in-err-number.ensures.1
-    (wrong_number c.args.self.now _ _ _ _ _ e.1 e.2 (ap (λ n. pos n -ℤ pos 134217728) e.3) (rw (← c.place.ensures) (simp (to_z-of_z w32 c.args.least c.ranges.least) at (sym c.number-in.ensures ∙ c.in-err-number.was))))
+    (wrong_number c.args.self.now _ _ _ _ _ e.1 e.2 (ap (λ n. pos n -ℤ pos 134217728) e.3) (rw (← c.place.ensures) (simp (to_z-of_z w32 c.args.least c.ranges.least) at (sym c.number_in.ensures ∙ c.in-err-number.was))))
 
 pub returns : goal.returns
 returns c =
     let e = c.in-ok-stored.ensures in
     let fits : SFits w32 c.in-ok-number.number = search rules in
     rw (to_z-of_z w32 c.in-ok-number.number fits)
-    (right_number c.args.self.now _ _ _ _ _ e.1 e.2 (ap (λ n. pos n -ℤ pos 134217728) e.3) (rw (← c.place.ensures) (simp (to_z-of_z w32 c.args.least c.ranges.least) at (sym c.number-in.ensures ∙ c.in-ok-number.was))))
+    (right_number c.args.self.now _ _ _ _ _ e.1 e.2 (ap (λ n. pos n -ℤ pos 134217728) e.3) (rw (← c.place.ensures) (simp (to_z-of_z w32 c.args.least c.ranges.least) at (sym c.number_in.ensures ∙ c.in-ok-number.was))))

@@ -12,9 +12,9 @@ returns-in-err-set c =
 pub returns-in-err-known : goal.returns-in-err-known
 returns-in-err-known c =
     let e = c.in-ok-set.ensures in
-    exit _ _ _ _ c.from-residual-in-err-known.ensures.1 (wrong_reset c.args.self.now _ _ _ _ e.1 e.2 e.3 (rw (← c.place.ensures) (sym c.clocks-in.ensures ∙ c.in-err-known.was)))
+    exit _ _ _ _ c.from-residual-in-err-known.ensures.1 (wrong_reset c.args.self.now _ _ _ _ e.1 e.2 e.3 (rw (← c.place.ensures) (sym c.clocks_in.ensures ∙ c.in-err-known.was)))
 
 pub returns : goal.returns
 returns c =
     let e = c.in-ok-set.ensures in
-    right_reset c.args.self.now _ _ _ _ e.1 e.2 e.3 (rw (← c.place.ensures) (sym c.clocks-in.ensures ∙ c.in-ok-known.was))
+    right_reset c.args.self.now _ _ _ _ e.1 e.2 e.3 (rw (← c.place.ensures) (sym c.clocks_in.ensures ∙ c.in-ok-known.was))

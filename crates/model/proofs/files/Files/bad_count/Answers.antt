@@ -6,4 +6,4 @@ use Rattle.model.specs.Records.{having}
 use Rattle.model.proofs.files.Files.bad_count.Goals as goal
 
 pub returns : goal.returns
-returns c = c.count-of.ensures ∙ sym (length-map (having 7 (words c.args.self.now.model.now)) guarded_of)
+returns c = c.count_of.ensures ∙ sym (length-map (having 7 (words c.args.self.now.model.now)) guarded_of)

@@ -6,4 +6,4 @@ use Rattle.model.specs.Records.{having}
 use Rattle.model.proofs.files.Files.zone_count.Goals as goal
 
 pub returns : goal.returns
-returns c = c.count-of.ensures ∙ sym (length-map (having 8 (words c.args.self.now.zones.now)) zone_of)
+returns c = c.count_of.ensures ∙ sym (length-map (having 8 (words c.args.self.now.zones.now)) zone_of)

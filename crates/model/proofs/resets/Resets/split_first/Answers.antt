@@ -26,9 +26,9 @@ returns-then-mask-eq1 c =
     let m = c.loop-clock.mask in
     record {
       splits = c.loop-clock.invariant ∙ resets_hit k m c.loop-clock-test.true (words bs) _ c.if-mask-eq1.true c.in-ok-number.ensures
-          ∙ (λ i. sym c.reset-of.ensures i ∷ resets_from (16 - (k + 1)) (k + 1) (m / 2) (sym (ap words (take_rest bs 4) ∙ words_drop 1 bs) i));
-      higher = omega (arith, ap (λ (r : Reset). r.clock) c.reset-of.ensures);
-      known = omega (arith, ap (λ (r : Reset). r.clock) c.reset-of.ensures, c.loop-clock-test.true);
+          ∙ (λ i. sym c.reset_of.ensures i ∷ resets_from (16 - (k + 1)) (k + 1) (m / 2) (sym (ap words (take_rest bs 4) ∙ words_drop 1 bs) i));
+      higher = omega (arith, ap (λ (r : Reset). r.clock) c.reset_of.ensures);
+      known = omega (arith, ap (λ (r : Reset). r.clock) c.reset_of.ensures, c.loop-clock-test.true);
       shorter = omega (arith, standing 0 (words bs) _ _ c.in-ok-number.ensures, length_words bs, ap length (take_rest bs 4), length-drop 4 bs);
     }
 

@@ -3,4 +3,4 @@ use Rattle.std.proofs.lemmas.Nat.{ones-le}
 use Rattle.model.proofs.views.Command.atoms.Goals as goal
 
 pub overflow-cast-count : goal.overflow-cast-count
-overflow-cast-count c = omega (arith, ones-le 32 c.reset-mask.result c.reset-mask.type-inv)
+overflow-cast-count c = omega (arith, ones-le 32 c.reset_mask.result c.reset_mask.type-inv)

@@ -14,16 +14,16 @@ loop-zone-preserved c =
     let struck = c.args.marks.now.struck in
     let n = c.loop-zone.zone in
     let to = λ (left : ℕ). slice_get (checks_from k.bads k.commands struck (n + 1) (k.zones - (n + 1))) left in
-    elim c.if-not-is-struck.branch [
-      | then-not-is-struck+else-left-each w ↦ c.loop-zone.invariant ∙ beyond k.bads k.commands struck n k.zones c.loop-zone-test.true c.loop-zone.left (sym c.is-struck.ensures ∙ w.if-not-is-struck.true) w.if-left-each.false ∙ ap to (sym w.left-is)
-      | else-not-is-struck w ↦ c.loop-zone.invariant ∙ passed_over k.bads k.commands struck n k.zones c.loop-zone-test.true c.loop-zone.left (sym c.is-struck.ensures ∙ w.if-not-is-struck.false) ∙ ap to (sym w.left-is)
+    elim c.if-not-is_struck.branch [
+      | then-not-is-struck+else-left-each w ↦ c.loop-zone.invariant ∙ beyond k.bads k.commands struck n k.zones c.loop-zone-test.true c.loop-zone.left (sym c.is_struck.ensures ∙ w.if-not-is_struck.true) w.if-left-each.false ∙ ap to (sym w.left-is)
+      | else-not-is-struck w ↦ c.loop-zone.invariant ∙ passed_over k.bads k.commands struck n k.zones c.loop-zone-test.true c.loop-zone.left (sym c.is_struck.ensures ∙ w.if-not-is_struck.false) ∙ ap to (sym w.left-is)
     ]
 
 pub returns-then-left-each : goal.returns-then-left-each
 returns-then-left-each c =
     let k = c.args.self in
     let struck = c.args.marks.now.struck in
-    sym (c.loop-zone.invariant ∙ among k.bads k.commands struck c.loop-zone.zone k.zones c.loop-zone-test.true c.loop-zone.left (sym c.is-struck.ensures ∙ c.if-not-is-struck.true) c.if-left-each.true ∙ c.within.ensures)
+    sym (c.loop-zone.invariant ∙ among k.bads k.commands struck c.loop-zone.zone k.zones c.loop-zone-test.true c.loop-zone.left (sym c.is_struck.ensures ∙ c.if-not-is_struck.true) c.if-left-each.true ∙ c.within.ensures)
 
 pub returns : goal.returns
 returns c =

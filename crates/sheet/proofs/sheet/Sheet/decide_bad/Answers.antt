@@ -12,15 +12,15 @@ returns g c =
     let s = c.args.self.now in
     let m = model_on s in
     let l = zones_on s in
-    let z = nth_there l c.args.zone c.requires.zone-there in
-    let k = nth_there m.bads c.args.bad c.requires.bad-there in
-    subst (λ (r : Settled). Decided g.B.Bound.admits m l (struck_on s) (Bad c.args.zone c.args.bad) r) (sym c.by-answer.ensures) (decided_bad g.B.Bound.admits m l (struck_on s) c.args.zone c.args.bad c.in-Ok.holds z.0 k.0 z.1 k.1 c.in-Ok.ensures.1)
+    let z = nth_there l c.args.zone c.requires.zone_there in
+    let k = nth_there m.bads c.args.bad c.requires.bad_there in
+    subst (λ (r : Settled). Decided g.B.Bound.admits m l (struck_on s) (Bad c.args.zone c.args.bad) r) (sym c.by_answer.ensures) (decided_bad g.B.Bound.admits m l (struck_on s) c.args.zone c.args.bad c.in-Ok.holds z.0 k.0 z.1 k.1 c.in-Ok.ensures.1)
 
 pub unreachable-requires : goal.unreachable-requires
 unreachable-requires g c =
     let s = c.args.self.now in
     let m = model_on s in
     let l = zones_on s in
-    let z = nth_there l c.args.zone c.requires.zone-there in
-    let k = nth_there m.bads c.args.bad c.requires.bad-there in
+    let z = nth_there l c.args.zone c.requires.zone_there in
+    let k = nth_there m.bads c.args.bad c.requires.bad_there in
     some_none _ _ (record_made s.files c.requires.passed _ c.args.zone (le-leb _ _ c.requires.enough) z.0 z.1 m.bads c.args.bad k.0 k.1) c.in-default.ensures.0

@@ -12,8 +12,8 @@ returns g c =
     let s = c.args.self.now in
     let m = model_on s in
     let l = zones_on s in
-    let z = nth_there l c.args.zone c.requires.zone-there in
-    let k = nth_there m.commands c.args.command c.requires.command-there in
+    let z = nth_there l c.args.zone c.requires.zone_there in
+    let k = nth_there m.commands c.args.command c.requires.command_there in
     subst (λ (r : Settled). Decided g.B.Bound.admits m l (struck_on s) (Command c.args.zone c.args.command) r) (sym c.settled_by_zone.ensures) (decided_command g.B.Bound.admits m l (struck_on s) c.args.zone c.args.command c.in-Ok.cover z.0 k.0 z.1 k.1 c.in-Ok.ensures.1)
 
 pub unreachable-requires : goal.unreachable-requires
@@ -21,6 +21,6 @@ unreachable-requires g c =
     let s = c.args.self.now in
     let m = model_on s in
     let l = zones_on s in
-    let z = nth_there l c.args.zone c.requires.zone-there in
-    let k = nth_there m.commands c.args.command c.requires.command-there in
+    let z = nth_there l c.args.zone c.requires.zone_there in
+    let k = nth_there m.commands c.args.command c.requires.command_there in
     some_none _ _ (record_made s.files c.requires.passed _ c.args.zone (le-leb _ _ c.requires.enough) z.0 z.1 m.commands c.args.command k.0 k.1) c.in-default.ensures.0

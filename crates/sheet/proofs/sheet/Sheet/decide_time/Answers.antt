@@ -12,7 +12,7 @@ returns g c =
     let s = c.args.self.now in
     let m = model_on s in
     let l = zones_on s in
-    let z = nth_there l c.args.zone c.requires.zone-there in
+    let z = nth_there l c.args.zone c.requires.zone_there in
     subst (λ (r : Settled). Decided g.B.Bound.admits m l (struck_on s) (Time c.args.zone) r) (sym c.settled_by_zone.ensures) (decided_time g.B.Bound.admits m l (struck_on s) c.args.zone c.in-Ok.cover z.0 z.1 c.in-Ok.ensures.1)
 
 pub unreachable-requires : goal.unreachable-requires
@@ -20,5 +20,5 @@ unreachable-requires g c =
     let s = c.args.self.now in
     let m = model_on s in
     let l = zones_on s in
-    let z = nth_there l c.args.zone c.requires.zone-there in
+    let z = nth_there l c.args.zone c.requires.zone_there in
     some_none _ _ (zone_made s.files c.requires.passed _ c.args.zone (le-leb _ _ c.requires.enough) z.0 z.1) c.in-default.ensures.0

@@ -2,8 +2,8 @@ use Rattle.std.proofs.Common.{sym, ◌∙◌, arith}
 use Rattle.checks.proofs.Ranging.{ranged}
 use Rattle.sheet.proofs.sheet.Sheet.next.Goals as goal
 
-pub check-at-requires : goal.check-at-requires
-check-at-requires c =
+pub check_at-requires : goal.check_at-requires
+check_at-requires c =
     let s = c.args.self.now in
     let r = ranged s.files (sym c.passed.ensures ∙ c.if-not-passed.false) in
     record {
