@@ -18,7 +18,7 @@ pub(crate) fn none_meets<B: Bound>(files: &Files, zone: Zone, bad: Guarded, area
     requires zone_fits { ZoneFits (head_in files.now) (zone_in zone) }
     requires bad_fits { GuardedFits (head_in files.now) (guarded_in bad) }
     requires enough { 578 ≤ length area.old }
-    ensures { Decides result (BadCheck admits (model_in files.now) (zone_in zone.entry) (guarded_in bad.entry)) }
+    ensures { Decides result (BadCheck B.admits (model_in files.now) (zone_in zone.entry) (guarded_in bad.entry)) }
 {
     if !bad.condition().holds(zone.booleans()) {
         return true;

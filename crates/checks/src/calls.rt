@@ -51,7 +51,7 @@ fn asked<'a>(files: &Files<'a>, area: usize, n: usize) -> Result<Zone<'a>, Refus
 
 // The start check: the lowest numbered unstruck zone that holds the start.
 pub fn start_check<B: Bound>(files: &Files, struck: &[bool; 512]) -> Result<Option<usize>, Refusal>
-    ensures { MatchResult result (λ o. (refused_start files.now ≡ None) × StartAnswer admits files.now struck.now o) (λ f. refused_start files.now ≡ Some f) }
+    ensures { MatchResult result (λ o. (refused_start files.now ≡ None) × StartAnswer B.admits files.now struck.now o) (λ f. refused_start files.now ≡ Some f) }
 {
     passed(files)?;
     let start = Start {
@@ -67,7 +67,7 @@ pub fn bad_check<B: Bound>(
     bad: usize,
     area: &mut [B],
 ) -> Result<bool, Refusal>
-    ensures { MatchResult result (λ o. (refused_record files.now (length area.old) zone (model_in files.now).bads bad ≡ None) × BadAnswer admits files.now zone bad o) (λ f. (refused_record files.now (length area.old) zone (model_in files.now).bads bad ≡ Some f) × (area.new ≡ area.old)) }
+    ensures { MatchResult result (λ o. (refused_record files.now (length area.old) zone (model_in files.now).bads bad ≡ None) × BadAnswer B.admits files.now zone bad o) (λ f. (refused_record files.now (length area.old) zone (model_in files.now).bads bad ≡ Some f) × (area.new ≡ area.old)) }
 {
     let part = asked(files, area.len(), zone)?;
     let Some(record) = files.bad(bad) else {
@@ -83,7 +83,7 @@ pub fn time_check<B: Bound>(
     zone: usize,
     area: &mut [B],
 ) -> Result<Option<usize>, Refusal>
-    ensures { MatchResult result (λ o. (refused_zone files.now (length area.old) zone ≡ None) × TimeAnswer admits files.now struck.now zone o) (λ f. (refused_zone files.now (length area.old) zone ≡ Some f) × (area.new ≡ area.old)) }
+    ensures { MatchResult result (λ o. (refused_zone files.now (length area.old) zone ≡ None) × TimeAnswer B.admits files.now struck.now zone o) (λ f. (refused_zone files.now (length area.old) zone ≡ Some f) × (area.new ≡ area.old)) }
 {
     let part = asked(files, area.len(), zone)?;
     Ok(cover_time(files, struck, part, area))
@@ -98,7 +98,7 @@ pub fn command_check<B: Bound>(
     command: usize,
     area: &mut [B],
 ) -> Result<Option<usize>, Refusal>
-    ensures { MatchResult result (λ o. (refused_record files.now (length area.old) zone (model_in files.now).commands command ≡ None) × CommandAnswer admits files.now struck.now zone command o) (λ f. (refused_record files.now (length area.old) zone (model_in files.now).commands command ≡ Some f) × (area.new ≡ area.old)) }
+    ensures { MatchResult result (λ o. (refused_record files.now (length area.old) zone (model_in files.now).commands command ≡ None) × CommandAnswer B.admits files.now struck.now zone command o) (λ f. (refused_record files.now (length area.old) zone (model_in files.now).commands command ≡ Some f) × (area.new ≡ area.old)) }
 {
     let part = asked(files, area.len(), zone)?;
     let Some(record) = files.command(command) else {

@@ -24,7 +24,7 @@ pub(crate) fn cover_command<B: Bound>(
     requires zone_fits { ZoneFits (head_in files.now) (zone_in zone) }
     requires command_fits { CommandFits (head_in files.now) (command_in command) }
     requires enough { 578 ≤ length area.old }
-    ensures { Names (CoversCommand admits (model_in files.now) (zone_in zone.entry) (command_in command.entry)) struck.now (zones_in files.now) result }
+    ensures { Names (CoversCommand B.admits (model_in files.now) (zone_in zone.entry) (command_in command.entry)) struck.now (zones_in files.now) result }
 {
     let before = zone.booleans();
     if !command.condition().holds(before) {

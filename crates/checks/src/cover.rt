@@ -38,9 +38,9 @@ fn all_at_zero(atoms: Atoms) -> bool
 
 // Whether every solution of a closed table keeps all atoms, placed in a frame.
 fn keeps_all<B: Bound>(table: &Table<B>, frame: &Frame, atoms: Atoms) -> bool
-    requires is_done { Done admits allows size unbounded table.now }
+    requires is_done { Done B.admits B.allows B.size B.unbounded table.now }
     requires fit { All (Placeable (shape frame.now) table.now.n) (atoms_in atoms) }
-    ensures { Decides result ((k : ℕ) (ν : ℕ → ℤ) → admits k → Solves admits allows size unbounded table.now k ν → All (Placed (shape frame.now) k ν) (atoms_in atoms.entry)) }
+    ensures { Decides result ((k : ℕ) (ν : ℕ → ℤ) → B.admits k → Solves B.admits B.allows B.size B.unbounded table.now k ν → All (Placed (shape frame.now) k ν) (atoms_in atoms.entry)) }
 {
     let mut rest = atoms;
     while let Some((atom, more)) = rest.split_first() {
@@ -92,9 +92,9 @@ pub(crate) struct States<'t, 'a, B: Bound> {
 }
 
 impl<'t, 'a, B: Bound> Reached for States<'t, 'a, B> {
-    ghost ready = { λ s y. Ready admits allows size unbounded s.table.now (shape s.frame.now) y };
+    ghost ready = { λ s y. Ready B.admits B.allows B.size B.unbounded s.table.now (shape s.frame.now) y };
 
-    ghost holds = { λ s y. HoldsAll admits allows size unbounded s.table.now (shape s.frame.now) s.booleans y };
+    ghost holds = { λ s y. HoldsAll B.admits B.allows B.size B.unbounded s.table.now (shape s.frame.now) s.booleans y };
 
     fn held_by(&self, zone: Zone) -> bool {
         self.booleans == zone.booleans() && keeps_all(self.table, self.frame, zone.atoms())
@@ -127,10 +127,10 @@ pub(crate) fn cover<'t, 'a, B: Bound>(
     zones: Zones,
     struck: &[bool; 512],
 ) -> Option<usize>
-    requires told { Told admits allows size unbounded answer closed.now }
+    requires told { Told B.admits B.allows B.size B.unbounded answer closed.now }
     requires fit { All (PlaceableZone (shape frame.now) closed.now.n) (zones_left zones) }
     requires few { length (zones_left zones) ≤ 512 }
-    ensures { Names (Covered admits allows size unbounded answer closed.now (shape frame.now) booleans) struck.now (zones_left zones.entry) result }
+    ensures { Names (Covered B.admits B.allows B.size B.unbounded answer closed.now (shape frame.now) booleans) struck.now (zones_left zones.entry) result }
 {
     match answer {
         Consistency::Inconsistent => lowest(&Nothing, zones, struck),

@@ -17,7 +17,7 @@ use model::{Atoms, Invariants};
 pub(crate) fn begin<B: Bound>(area: &mut [B], n: usize) -> Table<B>
     requires few { n ≤ 17 }
     requires enough { 578 ≤ length area.old }
-    ensures { EmptyTable admits allows size unbounded n result }
+    ensures { EmptyTable B.admits B.allows B.size B.unbounded n result }
 {
     let Some(table) = Table::new(area, n) else {
         unreachable()
@@ -27,9 +27,9 @@ pub(crate) fn begin<B: Bound>(area: &mut [B], n: usize) -> Table<B>
 
 // Adds atoms to a table, placed in a frame.
 pub(crate) fn pour<B: Bound>(table: &mut Table<B>, frame: &Frame, atoms: Atoms)
-    requires is_open { Open admits allows size unbounded table.old }
+    requires is_open { Open B.admits B.allows B.size B.unbounded table.old }
     requires fit { All (Placeable (shape frame.now) table.old.n) (atoms_in atoms) }
-    ensures { Adds admits allows size unbounded (λ k ν. All (Placed (shape frame.now) k ν) (atoms_in atoms.entry)) table.old table.new }
+    ensures { Adds B.admits B.allows B.size B.unbounded (λ k ν. All (Placed (shape frame.now) k ν) (atoms_in atoms.entry)) table.old table.new }
 {
     let mut rest = atoms;
     while let Some((atom, more)) = rest.split_first() {
@@ -46,9 +46,9 @@ pub(crate) fn pour_invariant<B: Bound>(
     invariants: Invariants,
     booleans: u32,
 )
-    requires is_open { Open admits allows size unbounded table.old }
+    requires is_open { Open B.admits B.allows B.size B.unbounded table.old }
     requires fit { All (PlaceableRecord (shape frame.now) table.old.n) (invariants_left invariants) }
-    ensures { Adds admits allows size unbounded (λ k ν. All (PlacedRecord (shape frame.now) k ν booleans) (invariants_left invariants.entry)) table.old table.new }
+    ensures { Adds B.admits B.allows B.size B.unbounded (λ k ν. All (PlacedRecord (shape frame.now) k ν booleans) (invariants_left invariants.entry)) table.old table.new }
 {
     let mut rest = invariants;
     while let Some((record, more)) = rest.split_first() {

@@ -33,9 +33,9 @@ fn is_urgent(commands: Commands, booleans: u32) -> bool
 
 // The delay is the second zero less the first: it is not negative, and it is 0 where a command is urgent.
 fn delay<B: Bound>(table: &mut Table<B>, second: usize, urgent: bool)
-    requires is_open { Open admits allows size unbounded table.old }
+    requires is_open { Open B.admits B.allows B.size B.unbounded table.old }
     requires in_table { second < table.old.n }
-    ensures { Adds admits allows size unbounded (λ k ν. Made (pos 0) false k (ν 0 -ℤ ν second) × (urgent ≡ true → Made (pos 0) false k (ν second -ℤ ν 0))) table.old table.new }
+    ensures { Adds B.admits B.allows B.size B.unbounded (λ k ν. Made (pos 0) false k (ν 0 -ℤ ν second) × (urgent ≡ true → Made (pos 0) false k (ν second -ℤ ν 0))) table.old table.new }
 {
     table.constrain(0, second, 0, false);
     if urgent {
@@ -53,7 +53,7 @@ pub(crate) fn cover_time<B: Bound>(
     requires passed { Ranged files.now }
     requires zone_fits { ZoneFits (head_in files.now) (zone_in zone) }
     requires enough { 578 ≤ length area.old }
-    ensures { Names (CoversTime admits (model_in files.now) (zone_in zone.entry)) struck.now (zones_in files.now) result }
+    ensures { Names (CoversTime B.admits (model_in files.now) (zone_in zone.entry)) struck.now (zones_in files.now) result }
 {
     let booleans = zone.booleans();
     let second = files.clocks() + 1;

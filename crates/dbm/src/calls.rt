@@ -12,7 +12,7 @@ impl<'a, B: Bound> Table<'a, B> {
     // A table in this memory, zero on the diagonal and no bound elsewhere; or nothing where n is above 17 or the memory is
     // too short for the table and one row.
     pub fn new(memory: &'a mut [B], n: usize) -> Option<Table<'a, B>>
-        ensures { MatchOption result ((17 < n) ⊎ (length memory.old < n * n + n)) (λ t. EmptyTable admits allows size unbounded n t) }
+        ensures { MatchOption result ((17 < n) ⊎ (length memory.old < n * n + n)) (λ t. EmptyTable B.admits B.allows B.size B.unbounded n t) }
     {
         if n > 17 || memory.len() < n * n + n {
             return None;
@@ -25,10 +25,10 @@ impl<'a, B: Bound> Table<'a, B> {
 
     // One more bound on the difference of i and j, at most d or below d if strict: the smaller stays.
     pub fn constrain(&mut self, i: usize, j: usize, d: i32, strict: bool)
-        requires is_open { Open admits allows size unbounded self.old }
+        requires is_open { Open B.admits B.allows B.size B.unbounded self.old }
         requires row { i < self.old.n }
         requires column { j < self.old.n }
-        ensures { More admits allows size unbounded self.old i j d strict self.new }
+        ensures { More B.admits B.allows B.size B.unbounded self.old i j d strict self.new }
     {
         let n = self.n;
         constrain(self.bounds, n, i, j, B::make(d, strict));
@@ -36,8 +36,8 @@ impl<'a, B: Bound> Table<'a, B> {
 
     // Closes the table, and says whether it has a solution.
     pub fn close(self) -> (Consistency, Table<'a, B>)
-        requires { Open admits allows size unbounded self }
-        ensures { Closes admits allows size unbounded result.0 self.entry result.1 }
+        requires { Open B.admits B.allows B.size B.unbounded self }
+        ensures { Closes B.admits B.allows B.size B.unbounded result.0 self.entry result.1 }
     {
         let Table { bounds, copy, n } = self;
         let answer = close(bounds, copy, n);
@@ -46,10 +46,10 @@ impl<'a, B: Bound> Table<'a, B> {
 
     // Whether every solution of the closed table keeps a bound on the difference of i and j.
     pub fn include(&self, i: usize, j: usize, d: i32, strict: bool) -> bool
-        requires is_done { Done admits allows size unbounded self.now }
+        requires is_done { Done B.admits B.allows B.size B.unbounded self.now }
         requires row { i < self.now.n }
         requires column { j < self.now.n }
-        ensures { Decides result (Keeps admits allows size unbounded self.now i j d strict) }
+        ensures { Decides result (Keeps B.admits B.allows B.size B.unbounded self.now i j d strict) }
     {
         include(self.bounds, self.n, i, j, B::make(d, strict))
     }

@@ -14,8 +14,8 @@ pub enum Consistency {
 
 // The smaller of a bound and the sum of two others.
 fn lowered<B: Bound>(old: B, via: B, through: B) -> B
-    requires { size via + size through ≤ 2 ^ 60 }
-    ensures { Tightened admits allows size old via through result }
+    requires { B.size via + B.size through ≤ 2 ^ 60 }
+    ensures { Tightened B.admits B.allows B.size old via through result }
 {
     let sum = via.sum(through);
     if old.not_greater(sum) { old } else { sum }
@@ -24,8 +24,8 @@ fn lowered<B: Bound>(old: B, via: B, through: B) -> B
 // Tightens one row: each entry by `via` and the entry of the same column in the row `through`.
 fn tighten<B: Bound>(row: &mut [B], via: B, through: &[B])
     requires same_length { length row.old ≡ length through.now }
-    requires sizes { (j : ℕ) → j < length through.now → size via + size (slice_index_or through.now j unbounded) ≤ 2 ^ 60 }
-    ensures { (j : ℕ) → j < length row.old → Tightened admits allows size (slice_index_or row.old j unbounded) via (slice_index_or through.now j unbounded) (slice_index_or row.new j unbounded) }
+    requires sizes { (j : ℕ) → j < length through.now → B.size via + B.size (slice_index_or through.now j B.unbounded) ≤ 2 ^ 60 }
+    ensures { (j : ℕ) → j < length row.old → Tightened B.admits B.allows B.size (slice_index_or row.old j B.unbounded) via (slice_index_or through.now j B.unbounded) (slice_index_or row.new j B.unbounded) }
 {
     for j in 0..row.len() {
         row[j] = lowered(row[j], via, through[j]);
@@ -48,8 +48,8 @@ fn turn<B: Bound>(table: &mut [B], copy: &mut [B], n: usize, k: usize)
     requires in_table { k < n }
     requires whole { length table.old ≡ n * n }
     requires row { length copy.old ≡ n }
-    requires sizes { (i j : ℕ) → i < n → j < n → size (entry unbounded n table.old i j) ≤ 2 ^ 59 }
-    ensures { (i j : ℕ) → i < n → j < n → Tightened admits allows size (entry unbounded n table.old i j) (entry unbounded n table.old i k) (entry unbounded n table.old k j) (entry unbounded n table.new i j) }
+    requires sizes { (i j : ℕ) → i < n → j < n → B.size (entry B.unbounded n table.old i j) ≤ 2 ^ 59 }
+    ensures { (i j : ℕ) → i < n → j < n → Tightened B.admits B.allows B.size (entry B.unbounded n table.old i j) (entry B.unbounded n table.old i k) (entry B.unbounded n table.old k j) (entry B.unbounded n table.new i j) }
 {
     let from = row_start(n, k);
     copy.copy_from_slice(&table[from..from + n]);
@@ -65,7 +65,7 @@ fn keeps_zero<B: Bound>(table: &[B], n: usize, k: usize) -> bool
     requires few { n ≤ 17 }
     requires in_table { k < n }
     requires whole { length table.now ≡ n * n }
-    ensures { Decides result (Within admits (allows origin) (allows (entry unbounded n table.now k k))) }
+    ensures { Decides result (Within B.admits (B.allows B.origin) (B.allows (entry B.unbounded n table.now k k))) }
 {
     let start = row_start(n, k);
     B::zero_bound().not_greater(table[start + k])
@@ -75,7 +75,7 @@ fn keeps_zero<B: Bound>(table: &[B], n: usize, k: usize) -> bool
 fn diagonal_keeps_zero<B: Bound>(table: &[B], n: usize) -> bool
     requires few { n ≤ 17 }
     requires whole { length table.now ≡ n * n }
-    ensures { Decides result ((i : ℕ) → i < n → Within admits (allows origin) (allows (entry unbounded n table.now i i))) }
+    ensures { Decides result ((i : ℕ) → i < n → Within B.admits (B.allows B.origin) (B.allows (entry B.unbounded n table.now i i))) }
 {
     for i in 0..n {
         if !keeps_zero(table, n, i) {
@@ -90,9 +90,9 @@ fn turns<B: Bound>(table: &mut [B], copy: &mut [B], n: usize) -> Consistency
     requires few { n ≤ 17 }
     requires whole { length table.old ≡ n * n }
     requires row { length copy.old ≡ n }
-    requires sizes { (i j : ℕ) → i < n → j < n → size (entry unbounded n table.old i j) ≤ 2 ^ 37 }
-    requires flat { (i : ℕ) → i < n → (k : ℕ) (v : ℤ) → admits k → allows (entry unbounded n table.old i i) k v → v ≤ℤ pos 0 }
-    ensures { TurnsMade admits allows result size unbounded n table.old table.new }
+    requires sizes { (i j : ℕ) → i < n → j < n → B.size (entry B.unbounded n table.old i j) ≤ 2 ^ 37 }
+    requires flat { (i : ℕ) → i < n → (k : ℕ) (v : ℤ) → B.admits k → B.allows (entry B.unbounded n table.old i i) k v → v ≤ℤ pos 0 }
+    ensures { TurnsMade B.admits B.allows result B.size B.unbounded n table.old table.new }
 {
     for k in 0..n {
         if !keeps_zero(table, n, k) {
@@ -108,10 +108,10 @@ pub(crate) fn close<B: Bound>(table: &mut [B], copy: &mut [B], n: usize) -> Cons
     requires few { n ≤ 17 }
     requires whole { length table.old ≡ n * n }
     requires row { length copy.old ≡ n }
-    requires sizes { (i j : ℕ) → i < n → j < n → size (entry unbounded n table.old i j) ≤ 2 ^ 37 }
-    requires flat { (i : ℕ) → i < n → (k : ℕ) (v : ℤ) → admits k → allows (entry unbounded n table.old i i) k v → v ≤ℤ pos 0 }
-    ensures same { SameSolutions admits allows unbounded n table.old table.new }
-    ensures answer { Closing admits allows result size (entry unbounded n table.old) (entry unbounded n table.new) n }
+    requires sizes { (i j : ℕ) → i < n → j < n → B.size (entry B.unbounded n table.old i j) ≤ 2 ^ 37 }
+    requires flat { (i : ℕ) → i < n → (k : ℕ) (v : ℤ) → B.admits k → B.allows (entry B.unbounded n table.old i i) k v → v ≤ℤ pos 0 }
+    ensures same { SameSolutions B.admits B.allows B.unbounded n table.old table.new }
+    ensures answer { Closing B.admits B.allows result B.size (entry B.unbounded n table.old) (entry B.unbounded n table.new) n }
 {
     match turns(table, copy, n) {
         Consistency::Inconsistent => Consistency::Inconsistent,

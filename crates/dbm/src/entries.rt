@@ -7,7 +7,7 @@ use bound::Bound;
 
 // No bound anywhere.
 fn clear<B: Bound>(bounds: &mut [B])
-    ensures { (p : ℕ) → slice_index_or bounds.new p unbounded ≡ unbounded }
+    ensures { (p : ℕ) → slice_index_or bounds.new p B.unbounded ≡ B.unbounded }
 {
     for b in bounds.iter_mut() {
         *b = B::no_bound();
@@ -18,7 +18,7 @@ fn clear<B: Bound>(bounds: &mut [B])
 pub(crate) fn fill<B: Bound>(bounds: &mut [B], n: usize)
     requires few { n ≤ 17 }
     requires whole { length bounds.old ≡ n * n }
-    ensures { Filled unbounded origin n bounds.new }
+    ensures { Filled B.unbounded B.origin n bounds.new }
 {
     clear(bounds);
     for i in 0..n {
@@ -33,7 +33,7 @@ pub(crate) fn constrain<B: Bound>(bounds: &mut [B], n: usize, i: usize, j: usize
     requires whole { length bounds.old ≡ n * n }
     requires row { i < n }
     requires column { j < n }
-    ensures { Constrained admits allows size unbounded n bounds.old i j bound bounds.new }
+    ensures { Constrained B.admits B.allows B.size B.unbounded n bounds.old i j bound bounds.new }
 {
     let start = row_start(n, i);
     if !bounds[start + j].not_greater(bound) {
@@ -47,8 +47,8 @@ pub(crate) fn include<B: Bound>(bounds: &[B], n: usize, i: usize, j: usize, boun
     requires whole { length bounds.now ≡ n * n }
     requires row { i < n }
     requires column { j < n }
-    requires tight { Tight admits allows (entry unbounded n bounds.now) n }
-    ensures { Decides result ((k : ℕ) (ν : ℕ → ℤ) → admits k → Sat admits allows unbounded n bounds.now k ν → allows bound k (ν i -ℤ ν j)) }
+    requires tight { Tight B.admits B.allows (entry B.unbounded n bounds.now) n }
+    ensures { Decides result ((k : ℕ) (ν : ℕ → ℤ) → B.admits k → Sat B.admits B.allows B.unbounded n bounds.now k ν → B.allows bound k (ν i -ℤ ν j)) }
 {
     let start = row_start(n, i);
     bounds[start + j].not_greater(bound)

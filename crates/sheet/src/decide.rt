@@ -35,7 +35,7 @@ fn by_answer(holds: bool) -> Settled
 impl Sheet<'_> {
     pub(crate) fn decide_start<B: Bound>(&self) -> Settled
         requires { pass_over self.now.files ≡ true }
-        ensures { Decided admits (model_on self.now) (zones_on self.now) (struck_on self.now) Start result }
+        ensures { Decided B.admits (model_on self.now) (zones_on self.now) (struck_on self.now) Start result }
     {
         let Ok(zone) = start_check::<B>(&self.files, &self.marks.struck) else {
             unreachable()
@@ -48,7 +48,7 @@ impl Sheet<'_> {
         requires enough { 578 ≤ length area.old }
         requires zone_there { zone < length (zones_on self.now) }
         requires bad_there { bad < length (model_on self.now).bads }
-        ensures { Decided admits (model_on self.now) (zones_on self.now) (struck_on self.now) (Bad zone bad) result }
+        ensures { Decided B.admits (model_on self.now) (zones_on self.now) (struck_on self.now) (Bad zone bad) result }
     {
         let Ok(holds) = bad_check(&self.files, zone, bad, area) else {
             unreachable()
@@ -60,7 +60,7 @@ impl Sheet<'_> {
         requires passed { pass_over self.now.files ≡ true }
         requires enough { 578 ≤ length area.old }
         requires zone_there { zone < length (zones_on self.now) }
-        ensures { Decided admits (model_on self.now) (zones_on self.now) (struck_on self.now) (Time zone) result }
+        ensures { Decided B.admits (model_on self.now) (zones_on self.now) (struck_on self.now) (Time zone) result }
     {
         let Ok(cover) = time_check(&self.files, &self.marks.struck, zone, area) else {
             unreachable()
@@ -78,7 +78,7 @@ impl Sheet<'_> {
         requires enough { 578 ≤ length area.old }
         requires zone_there { zone < length (zones_on self.now) }
         requires command_there { command < length (model_on self.now).commands }
-        ensures { Decided admits (model_on self.now) (zones_on self.now) (struck_on self.now) (Command zone command) result }
+        ensures { Decided B.admits (model_on self.now) (zones_on self.now) (struck_on self.now) (Command zone command) result }
     {
         let Ok(cover) = command_check(&self.files, &self.marks.struck, zone, command, area) else {
             unreachable()
@@ -91,7 +91,7 @@ impl Sheet<'_> {
     // The next check, decided in a work area.
     pub(crate) fn decide<B: Bound>(&self, check: Check, area: &mut [B]) -> Settled
         requires { AskedFor self.now (length area.old) check }
-        ensures { Decided admits (model_on self.now) (zones_on self.now) (struck_on self.now) check result }
+        ensures { Decided B.admits (model_on self.now) (zones_on self.now) (struck_on self.now) check result }
     {
         match check {
             Check::Start => self.decide_start::<B>(),

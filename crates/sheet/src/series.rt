@@ -16,7 +16,7 @@ use bound::Bound;
 impl<'a> Sheet<'a> {
     // Makes one call. Settle brings the first bounds of the area, as many as it says and there are.
     fn make<B: Bound>(&mut self, call: Call, area: &mut [B])
-        ensures { Makes admits (length area.old) self.old call self.new }
+        ensures { Makes B.admits (length area.old) self.old call self.new }
     {
         match call {
             Call::Settle(bounds) => {
@@ -45,7 +45,7 @@ pub fn replay<'a, B: Bound>(
 ) -> Sheet<'a>
     ensures files { (result.files.model.now ≡ model.now) × (result.files.zones.now ≡ zones.now) }
     ensures marks { passes (look_over_answer model.now zones.now) ≡ true → struck_on result ≡ (after_calls (length (zones_of (words zones.now))) (length area.old) at_opening calls.now).struck }
-    ensures promise { passes (look_over_answer model.now zones.now) ≡ true → Promise admits (model_of (words model.now)) (zones_of (words zones.now)) (after_calls (length (zones_of (words zones.now))) (length area.old) at_opening calls.now) (verdict_of result) }
+    ensures promise { passes (look_over_answer model.now zones.now) ≡ true → Promise B.admits (model_of (words model.now)) (zones_of (words zones.now)) (after_calls (length (zones_of (words zones.now))) (length area.old) at_opening calls.now) (verdict_of result) }
 {
     let mut sheet = Sheet::open(model, zones);
     for call in calls {

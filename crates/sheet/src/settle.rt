@@ -30,7 +30,7 @@ impl Sheet<'_> {
 
     // Settles the next check in a work area of at least 578 bounds.
     pub fn settle<B: Bound>(&mut self, area: &mut [B]) -> Result<Settled, Refused>
-        ensures { MatchResult result (λ a. (settle_refused self.old (length area.old) ≡ None) × Settles admits self.old a self.new) (λ f. (settle_refused self.old (length area.old) ≡ Some f) × (self.new ≡ self.old) × (area.new ≡ area.old)) }
+        ensures { MatchResult result (λ a. (settle_refused self.old (length area.old) ≡ None) × Settles B.admits self.old a self.new) (λ f. (settle_refused self.old (length area.old) ≡ Some f) × (self.new ≡ self.old) × (area.new ≡ area.old)) }
     {
         let check = self.next(area.len())?;
         let answer = self.decide(check, area);

@@ -57,7 +57,7 @@ pub fn solvable(answer: Consistency) -> Answer {
 
 // Whether a closed zone lies in a limit on the difference of i and j.
 pub fn lies_in<B: Bound>(t: &Table<B>, i: usize, j: usize, limit: Limit) -> Answer
-    requires is_done { Done admits allows size unbounded t.now }
+    requires is_done { Done B.admits B.allows B.size B.unbounded t.now }
     requires row { i < t.now.n }
     requires column { j < t.now.n }
 {

@@ -7,10 +7,10 @@ use Rattle.checks.proofs.calls.command_check.Goals as goal
 
 pub returns : goal.returns
 returns g c =
-    let asked = c.in-ok-part.ensures in
+    let asked = c.in_ok-part.ensures in
     let p = c.args.files.now in
     let m = model_in p in
-    let z₀ = zone_in c.in-ok-part.part in
+    let z₀ = zone_in c.in_ok-part.part in
     let c₀ = command_in c.in-Some.record in (
       record_there p _ c.args.zone m.commands c.args.command c₀ asked.unrefused c.in-Some.ensures,
       λ z k listed named. of_listed (λ q. Names (CoversCommand g.B.Bound.admits m q k) c.args.struck.now (zones_in p) c.cover_command.result) (zones_in p) c.args.zone z₀ z asked.listed listed
@@ -19,10 +19,10 @@ returns g c =
 
 pub cover_command-requires : goal.cover_command-requires
 cover_command-requires g c =
-    let asked = c.in-ok-part.ensures in
+    let asked = c.in_ok-part.ensures in
     record {
       passed = asked.ranged;
-      zone_fits = all_nth _ _ c.args.zone (zone_in c.in-ok-part.part) asked.ranged.zones.zones asked.listed;
+      zone_fits = all_nth _ _ c.args.zone (zone_in c.in_ok-part.part) asked.ranged.zones.zones asked.listed;
       command_fits = all_nth _ _ c.args.command (command_in c.in-Some.record) asked.ranged.model.commands c.in-Some.ensures;
       enough = asked.enough;
     }

@@ -13,9 +13,9 @@ returns g c =
     let b = g.B.Bound in
     let m = model_in c.args.files.now in
     let names = subst (λ (q : ℕ). Names (HoldsZero q) c.args.struck.now (zones_in c.args.files.now) c.lowest.result) c.start.ensures (subst (λ (l : List Zone). Names (HoldsZero c.start.result) c.args.struck.now l c.lowest.result) c.zones.ensures c.lowest.ensures) in (
-      c.in-ok-passed.ensures.0,
+      c.in_ok-passed.ensures.0,
       names_same (HoldsStart b.admits m) (HoldsZero m.start) c.args.struck.now (zones_in c.args.files.now) c.lowest.result (λ i y listed. start_system b.admits m y g.met.B.Bound.some_scale g.met.B.Bound.positive) names,
     )
 
 pub lowest-requires : goal.lowest-requires
-lowest-requires g c = record { ready = all_units (zones_left c.zones.result); few = omega (arith, ap length c.zones.ensures, c.in-ok-passed.ensures.1.zones.few_zones) }
+lowest-requires g c = record { ready = all_units (zones_left c.zones.result); few = omega (arith, ap length c.zones.ensures, c.in_ok-passed.ensures.1.zones.few_zones) }

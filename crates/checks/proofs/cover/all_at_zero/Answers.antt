@@ -11,4 +11,4 @@ pub returns-then-not-holds_at_zero : goal.returns-then-not-holds_at_zero
 returns-then-not-holds_at_zero c = (λ e. absurd (true≢false (sym e)), λ all. absurd (left_fails AtZero _ _ _ _ c.in-Some.ensures.splits (λ p. true≢false (sym (c.holds_at_zero.ensures.1 p) ∙ c.if-not-holds_at_zero.true)) c.loop-atom.invariant all))
 
 pub returns : goal.returns
-returns c = (λ _. left_done AtZero _ _ c.in-default.ensures c.loop-atom.invariant, λ _. refl)
+returns c = (λ _. left_done AtZero _ _ c.in_default.ensures c.loop-atom.invariant, λ _. refl)

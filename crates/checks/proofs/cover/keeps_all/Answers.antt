@@ -41,4 +41,4 @@ returns g c =
     let b = g.B.Bound in
     let f = shape c.args.frame.now in
     let t = c.args.table.now in
-    (λ _. keeps_each b.admits b.allows b.size b.unbounded t f (atoms_in c.args.atoms) (left_done (KeepsPlaced b.admits b.allows b.size b.unbounded t f) _ _ c.in-default.ensures c.loop-atom.invariant.0), λ _. refl)
+    (λ _. keeps_each b.admits b.allows b.size b.unbounded t f (atoms_in c.args.atoms) (left_done (KeepsPlaced b.admits b.allows b.size b.unbounded t f) _ _ c.in_default.ensures c.loop-atom.invariant.0), λ _. refl)

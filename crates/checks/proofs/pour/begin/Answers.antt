@@ -6,4 +6,4 @@ enough_room : (n len : ℕ) → n ≤ 17 → 578 ≤ len → (17 < n) ⊎ (len <
 enough_room n len few enough none = ⊎_elim (λ many. omega arith) (λ short. omega (arith, mul-le n n 17 17 few few)) none
 
 pub unreachable-requires : goal.unreachable-requires
-unreachable-requires g c = enough_room c.args.n _ c.requires.few c.requires.enough c.in-default.ensures
+unreachable-requires g c = enough_room c.args.n _ c.requires.few c.requires.enough c.in_default.ensures

@@ -25,4 +25,4 @@ loop-atom-preserved g c =
 pub returns : goal.returns
 returns g c =
     let b = g.B.Bound in
-    pouring_all b.admits b.allows b.size b.unbounded (Placed (shape c.args.frame.now)) (atoms_in c.args.atoms) _ _ c.loop-atom.table c.in-default.ensures c.loop-atom.invariant.0
+    pouring_all b.admits b.allows b.size b.unbounded (Placed (shape c.args.frame.now)) (atoms_in c.args.atoms) _ _ c.loop-atom.table c.in_default.ensures c.loop-atom.invariant.0

@@ -38,4 +38,4 @@ loop-record-preserved-then-holds g c =
 pub returns : goal.returns
 returns g c =
     let b = g.B.Bound in
-    pouring_all b.admits b.allows b.size b.unbounded (λ k ν r. PlacedRecord (shape c.args.frame.now) k ν c.args.booleans r) (invariants_left c.args.invariants) _ _ c.loop-record.table c.in-default.ensures c.loop-record.invariant.0
+    pouring_all b.admits b.allows b.size b.unbounded (λ k ν r. PlacedRecord (shape c.args.frame.now) k ν c.args.booleans r) (invariants_left c.args.invariants) _ _ c.loop-record.table c.in_default.ensures c.loop-record.invariant.0

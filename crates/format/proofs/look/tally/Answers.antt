@@ -6,17 +6,17 @@ use Rattle.format.proofs.look.tally.Goals as goal
 
 pub loop-record-preserved : goal.loop-record-preserved
 loop-record-preserved c =
-    let h = c.in-ok-record.ensures in
-    (c.loop-record.invariant.0 ∙ record_goes _ _ _ _ _ c.in-default.not-End (h.walks c.loop-record.invariant.1), rest_within _ _ _ _ _ h c.loop-record.invariant.1)
+    let h = c.in_ok-record.ensures in
+    (c.loop-record.invariant.0 ∙ record_goes _ _ _ _ _ c.in_default.not-End (h.walks c.loop-record.invariant.1), rest_within _ _ _ _ _ h c.loop-record.invariant.1)
 
 pub loop-record-smaller : goal.loop-record-smaller
-loop-record-smaller c = rest_shorter _ _ _ _ _ c.in-ok-record.ensures
+loop-record-smaller c = rest_shorter _ _ _ _ _ c.in_ok-record.ensures
 
 pub loop-record-init : goal.loop-record-init
 loop-record-init c = (refl, c.requires)
 
 pub returns-in-End : goal.returns-in-End
 returns-in-End c =
-    let h = c.in-ok-record.ensures in
-    let ended = subst (λ (r : Record). WalksOn r c.loop-record.place c.next_record.new.self c.loop-record.rest.now c.in-ok-record.unread.now) c.in-End.is (h.walks c.loop-record.invariant.1) in
+    let h = c.in_ok-record.ensures in
+    let ended = subst (λ (r : Record). WalksOn r c.loop-record.place c.next_record.new.self c.loop-record.rest.now c.in_ok-record.unread.now) c.in-End.is (h.walks c.loop-record.invariant.1) in
     c.loop-record.invariant.0 ∙ end_passes c.in-End.field-0 _ _ _ _ ended

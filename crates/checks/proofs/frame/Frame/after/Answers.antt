@@ -19,4 +19,4 @@ loop-reset-preserved c =
     (All-weaker _ _ (λ q h. omega (arith, first.higher)) _ (resets_higher (16 - more.clock) more.clock more.mask (words more.numbers.now))) written
 
 pub returns : goal.returns
-returns c = writing_all _ _ c.loop-reset.frame c.loop-reset.invariant c.in-default.ensures
+returns c = writing_all _ _ c.loop-reset.frame c.loop-reset.invariant c.in_default.ensures

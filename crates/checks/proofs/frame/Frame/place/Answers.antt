@@ -12,7 +12,7 @@ returns c =
     let d_fits : SFits w32 a.d = search rules in
     let p_fits : SFits w32 p = search rules in
     let q_fits : SFits w32 q = search rules in
-    let number = to_z-of_z w32 c.shifted.result (record { sfits = c.shifted.type-inv }) ∙ c.shifted.ensures ∙ (λ t. (to_z-of_z w32 a.d d_fits t -ℤ to_z-of_z w32 p p_fits t) +ℤ to_z-of_z w32 q q_fits t) in
+    let number = to_z-of_z w32 c.shifted.result (record { sfits = c.shifted.type_inv }) ∙ c.shifted.ensures ∙ (λ t. (to_z-of_z w32 a.d d_fits t -ℤ to_z-of_z w32 p p_fits t) +ℤ to_z-of_z w32 q q_fits t) in
     λ t. record {
       i = get_or_default f.rows a.i 0 a.i (omega (arith, c.requires.1.i_known)) t;
       j = get_or_default f.rows a.j 0 a.j (omega (arith, c.requires.1.j_known)) t;

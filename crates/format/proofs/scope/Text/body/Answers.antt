@@ -15,8 +15,8 @@ returns-in-8 c =
     let b = zone_begun c.args.word c.in-8.is in
     begun c.args.self.now c.args.word (atomOr 0) c.atoms.result (λ (x : Context). x.urgent ≡ false) (omega (arith, c.in-8.is)) b.1 b.0 c.atoms.ensures
 
-pub returns-in-default : goal.returns-in-default
-returns-in-default c =
+pub returns-in_default : goal.returns-in_default
+returns-in_default c =
     let b = guarded_begun c.args.word c.requires.starts (λ e. omega arith) (λ e. omega arith) (λ e. omega arith) (λ e. omega arith) c.requires.no_end in
     begun c.args.self.now c.args.word onesMask c.guarded.result (λ (x : Context). (after_condition x.section ≡ atomOr 0) × (x.urgent ≡ false)) b.0 b.2 b.1 c.guarded.ensures
 

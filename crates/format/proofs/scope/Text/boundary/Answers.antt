@@ -5,8 +5,8 @@ use Rattle.format.proofs.scope.Text.boundary.Goals as goal
 pub returns-in-Some : goal.returns-in-Some
 returns-in-Some c x s b = rw c.place.ensures (no_boundary c.args.self.now _ _ c.in-Some.ensures (sym c.continues.ensures ∙ c.if-continues.true) x s b)
 
-pub returns-in-default : goal.returns-in-default
-returns-in-default c = at_boundary c.args.self.now _ _ c.in-Some.ensures (sym c.if-continues.ensures)
+pub returns-in_default : goal.returns-in_default
+returns-in_default c = at_boundary c.args.self.now _ _ c.in-Some.ensures (sym c.if-continues.ensures)
 
-pub returns-in-default·2 : goal.returns-in-default·2
-returns-in-default·2 c = past_end c.args.self.now _ c.in-default.ensures
+pub returns-in_default-2 : goal.returns-in_default-2
+returns-in_default-2 c = past_end c.args.self.now _ c.in_default.ensures

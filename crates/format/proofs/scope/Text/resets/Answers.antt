@@ -9,7 +9,7 @@ loop-n-preserved c x =
     let t = c.args.self.now in
     let left : c.args.count - c.loop-n.n ≡ suc (c.args.count - (c.loop-n.n + 1)) = omega arith in
     let before = subst (λ (q : ℕ). Goes t x (owing c.args.count) c.args.k (owing q) (c.args.k + c.loop-n.n)) left (c.loop-n.invariant x) in
-    goes_to t x _ _ _ (c.args.k + c.loop-n.n + 1) _ (omega arith) (owing_goes t x _ _ _ _ _ before c.in-ok-number.ensures)
+    goes_to t x _ _ _ (c.args.k + c.loop-n.n + 1) _ (omega arith) (owing_goes t x _ _ _ _ _ before c.in_ok-number.ensures)
 
 pub returns : goal.returns
 returns c x =

@@ -23,4 +23,4 @@ unreachable-requires g c =
     let l = zones_on s in
     let z = nth_there l c.args.zone c.requires.zone_there in
     let k = nth_there m.bads c.args.bad c.requires.bad_there in
-    some_none _ _ (record_made s.files c.requires.passed _ c.args.zone (le-leb _ _ c.requires.enough) z.0 z.1 m.bads c.args.bad k.0 k.1) c.in-default.ensures.0
+    some_none _ _ (record_made s.files c.requires.passed _ c.args.zone (le-leb _ _ c.requires.enough) z.0 z.1 m.bads c.args.bad k.0 k.1) c.in_default.ensures.0

@@ -23,4 +23,4 @@ unreachable-requires g c =
     let l = zones_on s in
     let z = nth_there l c.args.zone c.requires.zone_there in
     let k = nth_there m.commands c.args.command c.requires.command_there in
-    some_none _ _ (record_made s.files c.requires.passed _ c.args.zone (le-leb _ _ c.requires.enough) z.0 z.1 m.commands c.args.command k.0 k.1) c.in-default.ensures.0
+    some_none _ _ (record_made s.files c.requires.passed _ c.args.zone (le-leb _ _ c.requires.enough) z.0 z.1 m.commands c.args.command k.0 k.1) c.in_default.ensures.0

@@ -19,4 +19,4 @@ unreachable-requires g c =
     let s = c.args.self.now in
     let m = model_on s in
     let l = zones_on s in
-    some_none _ _ (start_made s.files c.requires) c.in-default.ensures
+    some_none _ _ (start_made s.files c.requires) c.in_default.ensures

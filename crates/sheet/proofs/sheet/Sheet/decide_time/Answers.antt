@@ -21,4 +21,4 @@ unreachable-requires g c =
     let m = model_on s in
     let l = zones_on s in
     let z = nth_there l c.args.zone c.requires.zone_there in
-    some_none _ _ (zone_made s.files c.requires.passed _ c.args.zone (le-leb _ _ c.requires.enough) z.0 z.1) c.in-default.ensures.0
+    some_none _ _ (zone_made s.files c.requires.passed _ c.args.zone (le-leb _ _ c.requires.enough) z.0 z.1) c.in_default.ensures.0

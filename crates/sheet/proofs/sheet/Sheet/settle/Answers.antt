@@ -4,9 +4,9 @@ use Rattle.sheet.specs.Sheets.{model_on, zones_on, struck_on}
 use Rattle.sheet.proofs.Nexts.{count_small}
 use Rattle.sheet.proofs.sheet.Sheet.settle.Goals as goal
 
-pub overflow-add-self : goal.overflow-add-self
-overflow-add-self g c =
+pub overflow_add-self : goal.overflow_add-self
+overflow_add-self g c =
     let s = c.args.self.now in
-    let asked = c.in-ok-check.ensures in
+    let asked = c.in_ok-check.ensures in
     let r = ranged s.files asked.passed in
     omega (arith, count_small (length (model_on s).bads) (length (model_on s).commands) (struck_on s) (length (zones_on s)) s.count _ r.model.few_bads r.model.few_commands r.zones.few_zones asked.next)
