@@ -5,7 +5,7 @@ usage: python3 tools/respell.py        at the top of the repository, once
 
 It looks for the names that the repository defines (in specs/ and proofs/: definitions, fields, parameters, bound names),
 turns those with a dash, and leaves the names of the library and the names that the prover makes. Functions, types, strings
-and comments of src/ are not touched. It prints names that would fall together and then writes nothing.
+and comments of src/ are not touched. It prints names that would fall together and then turns none.
 """
 import os
 import re
@@ -61,7 +61,22 @@ def respelled(name):
     return camel(name) if name[0].isupper() else name.replace("-", "_")
 
 
+def plain_all():
+    """The fact of each element, by recursion, stands under its own name: `All` is another definition of today's library."""
+    for p in texts():
+        with open(p, encoding="utf-8") as f:
+            old = f.read()
+        if "AllByRecursion as All" in old:
+            mark = "--" if p.endswith(".antt") else "//"
+            new = re.sub(r"AllByRecursion as All\b", "AllByRecursion", old)
+            lines = (code(l, mark) for l in new.split("\n"))
+            new = "\n".join(re.sub(r"(?<![\w'.-])All(?![\w'-])", "AllByRecursion", a) + b for a, b in lines)
+            with open(p, "w", encoding="utf-8") as f:
+                f.write(new)
+
+
 def main():
+    plain_all()
     own, foreign, made, every = set(), set(), set(), set()
     for p in texts():
         with open(p, encoding="utf-8") as f:
@@ -71,6 +86,7 @@ def main():
             line = code(line, mark)[0]
             use = re.match(r"\s*(?:ghost )?use (Rattle\.(\w+)\.[\w.-]+)(?:\.\{(.*)\})?", line)
             if use:
+                own.update(re.findall(r" as ([A-Za-z_][\w'-]*)", line))
                 if use[2] in ("std", "core"):
                     foreign.update(WORD.findall(use[3] or ""))
                 continue

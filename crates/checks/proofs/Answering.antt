@@ -1,7 +1,7 @@
 -- From what was poured into a table, and what closing it answers, to the solutions of a system. Assumes nothing.
 use Rattle.std.proofs.Common.{◌≡◌, ℕ, Bool, List, ℤ, Option, subst}
 use Rattle.checks.specs.Meanings.{Names}
-use Rattle.std.specs.List.{AllByRecursion as All}
+use Rattle.std.specs.List.{AllByRecursion}
 use Rattle.bound.specs.Time.{Meaning, Same}
 use Rattle.dbm.specs.Calls.{Solves, EmptyTable, Closes}
 use Rattle.dbm.specs.declared.table.Table.{Table}
@@ -19,14 +19,14 @@ condition_as c d b e same_condition same_booleans h = subst (λ (q : Condition).
 
 module _ {B : Type 0} (admits : ℕ → Type 0) (allows : B → Meaning) (size : B → ℕ) (none : B) where
   -- the same frame and the same atoms, by other names
-  pub poured_as : (f h : Frame) (l r : List Atom) (old new : Table B) → f ≡ h → l ≡ r → Adds admits allows size none (λ k ν. All (Placed f k ν) l) old new → Adds admits allows size none (λ k ν. All (Placed h k ν) r) old new
-  poured_as f h l r old new e d a = subst (λ (q : Frame). Adds admits allows size none (λ k ν. All (Placed q k ν) r) old new) e (subst (λ (q : List Atom). Adds admits allows size none (λ k ν. All (Placed f k ν) q) old new) d a)
+  pub poured_as : (f h : Frame) (l r : List Atom) (old new : Table B) → f ≡ h → l ≡ r → Adds admits allows size none (λ k ν. AllByRecursion (Placed f k ν) l) old new → Adds admits allows size none (λ k ν. AllByRecursion (Placed h k ν) r) old new
+  poured_as f h l r old new e d a = subst (λ (q : Frame). Adds admits allows size none (λ k ν. AllByRecursion (Placed q k ν) r) old new) e (subst (λ (q : List Atom). Adds admits allows size none (λ k ν. AllByRecursion (Placed f k ν) q) old new) d a)
 
-  pub invariant_as : (f h : Frame) (b e : ℕ) (l r : List Guarded) (old new : Table B) → f ≡ h → b ≡ e → l ≡ r → Adds admits allows size none (λ k ν. All (PlacedRecord f k ν b) l) old new → Adds admits allows size none (λ k ν. All (PlacedRecord h k ν e) r) old new
+  pub invariant_as : (f h : Frame) (b e : ℕ) (l r : List Guarded) (old new : Table B) → f ≡ h → b ≡ e → l ≡ r → Adds admits allows size none (λ k ν. AllByRecursion (PlacedRecord f k ν b) l) old new → Adds admits allows size none (λ k ν. AllByRecursion (PlacedRecord h k ν e) r) old new
   invariant_as f h b e l r old new same_frame same_booleans same_records a =
-      subst (λ (q : Frame). Adds admits allows size none (λ k ν. All (PlacedRecord q k ν e) r) old new) same_frame
-      (subst (λ (q : ℕ). Adds admits allows size none (λ k ν. All (PlacedRecord f k ν q) r) old new) same_booleans
-      (subst (λ (q : List Guarded). Adds admits allows size none (λ k ν. All (PlacedRecord f k ν b) q) old new) same_records a))
+      subst (λ (q : Frame). Adds admits allows size none (λ k ν. AllByRecursion (PlacedRecord q k ν e) r) old new) same_frame
+      (subst (λ (q : ℕ). Adds admits allows size none (λ k ν. AllByRecursion (PlacedRecord f k ν q) r) old new) same_booleans
+      (subst (λ (q : List Guarded). Adds admits allows size none (λ k ν. AllByRecursion (PlacedRecord f k ν b) q) old new) same_records a))
 
   -- the same answer, by other names for the frame, the Booleans and the zones
   pub named_as : (a : Consistency) (t : Table B) (f h : Frame) (b e : ℕ) (struck : List Bool) (l r : List Zone) (answer : Option ℕ) → f ≡ h → b ≡ e → l ≡ r → Names (Covered admits allows size none a t f b) struck l answer → Names (Covered admits allows size none a t h e) struck r answer

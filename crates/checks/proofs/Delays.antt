@@ -1,7 +1,7 @@
 -- The invariant holds throughout a delay when it holds at both its ends. Assumes nothing.
 use Rattle.std.proofs.Common.{◌≡◌, ℕ, zero, suc, ◌≤◌, Bool, List, [], ◌∷◌, ℤ, pos, ◌+ℤ◌, ◌-ℤ◌, sym, ap, subst, arith}
 use mathlib.Core.Path.{fun_ext}
-use Rattle.std.specs.List.{AllByRecursion as All}
+use Rattle.std.specs.List.{AllByRecursion}
 use Rattle.std.proofs.lemmas.Int.{ints}
 use Rattle.bound.specs.Time.{Made, Same}
 use Rattle.bound.specs.Scales.{made_lower}
@@ -10,7 +10,7 @@ use Rattle.model.specs.States.{State, clock, AtomHolds, AtomsHold, Respects, Inv
 use Rattle.model.specs.Steps.{later}
 
 -- what follows of each element from two facts of it
-both_all : {X : Type 0} (P Q R : X → Type 0) → ((x : X) → P x → Q x → R x) → (l : List X) → All P l → All Q l → All R l
+both_all : {X : Type 0} (P Q R : X → Type 0) → ((x : X) → P x → Q x → R x) → (l : List X) → AllByRecursion P l → AllByRecursion Q l → AllByRecursion R l
 both_all P Q R one [] p q = tt
 both_all P Q R one (x ∷ l) p q = (one x p.0 q.0, both_all P Q R one l p.1 q.1)
 
@@ -25,7 +25,7 @@ module _ (K δ e : ℕ) (s : State) (le : e ≤ δ) where
   between_atoms : (l : List Atom) → AtomsHold K s l → AtomsHold K (later δ s) l → AtomsHold K (later e s) l
   between_atoms = both_all (AtomHolds K s) (AtomHolds K (later δ s)) (AtomHolds K (later e s)) (λ a. between_clocks a.d a.strict a.i a.j)
 
-  between_records : (l : List Guarded) → All (Respects K s) l → All (Respects K (later δ s)) l → All (Respects K (later e s)) l
+  between_records : (l : List Guarded) → AllByRecursion (Respects K s) l → AllByRecursion (Respects K (later δ s)) l → AllByRecursion (Respects K (later e s)) l
   between_records = both_all (Respects K s) (Respects K (later δ s)) (Respects K (later e s)) (λ g p q c. between_atoms g.atoms (p c) (q c))
 
 pub between_ends : (K δ e : ℕ) (m : Model) (s : State) → e ≤ δ → Invariant K m s → Invariant K m (later δ s) → Invariant K m (later e s)

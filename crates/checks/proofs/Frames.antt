@@ -1,6 +1,6 @@
 -- An atom holds in a state exactly when it holds, placed in a frame, of the values that show the state. Assumes nothing.
 use Rattle.std.proofs.Common.{◌≡◌, ℕ, zero, suc, ◌≤◌, Bool, true, false, cond, eqb, leb, List, [], ◌∷◌, ℤ, pos, negsuc, ◌+ℤ◌, ◌-ℤ◌, ◌*ℤ◌, neg_ℤ, ◌≤ℤ◌, refl, ap, ◌∙◌, arith}
-use Rattle.std.specs.List.{AllByRecursion as All}
+use Rattle.std.specs.List.{AllByRecursion}
 use Rattle.std.proofs.lemmas.Int.{ints}
 use Rattle.std.proofs.lemmas.Bool.{le-leb, lt-leb, ne_eqb, cond-true, cond-false}
 use Rattle.bound.specs.Time.{Made, Same}
@@ -27,7 +27,7 @@ moved d u w false K x y z a b p q = let e = times_moved d u w K in (λ h. omega 
 moved d u w true K x y z a b p q = let e = times_moved d u w K in (λ h. omega (arith, ints), λ h. omega (arith, ints))
 
 -- the same of each element
-each_same : {X : Type 0} (F P Q : X → Type 0) (l : List X) → ((x : X) → F x → Same (P x) (Q x)) → All F l → Same (All P l) (All Q l)
+each_same : {X : Type 0} (F P Q : X → Type 0) (l : List X) → ((x : X) → F x → Same (P x) (Q x)) → AllByRecursion F l → Same (AllByRecursion P l) (AllByRecursion Q l)
 each_same F P Q [] one fits = (λ h. h, λ h. h)
 each_same F P Q (x ∷ l) one fits =
     let here = one x fits.0 in
@@ -38,7 +38,7 @@ module _ (h : Head) (f : Frame) (K : ℕ) (ν : ℕ → ℤ) (s : State) (shows 
   pub placed_atom : (a : Atom) → AtomFits h a → Same (Placed f K ν a) (AtomHolds K s a)
   placed_atom a fits = moved a.d (f.offset a.i) (f.offset a.j) a.strict K (ν (f.row a.i)) (ν (f.row a.j)) (ν (f.row 0)) (clock s a.i) (clock s a.j) (shows a.i fits.i_known) (shows a.j fits.j_known)
 
-  pub placed_atoms : (l : List Atom) → All (AtomFits h) l → Same (All (Placed f K ν) l) (AtomsHold K s l)
+  pub placed_atoms : (l : List Atom) → AllByRecursion (AtomFits h) l → Same (AllByRecursion (Placed f K ν) l) (AtomsHold K s l)
   placed_atoms l fits = each_same (AtomFits h) (Placed f K ν) (AtomHolds K s) l placed_atom fits
 
   placed_record : (g : Guarded) → GuardedFits h g → Same (PlacedRecord f K ν s.booleans g) (Respects K s g)
@@ -46,7 +46,7 @@ module _ (h : Head) (f : Frame) (K : ℕ) (ν : ℕ → ℤ) (s : State) (shows 
       let both = placed_atoms g.atoms fits.atoms.each in
       (λ r c. both.0 (r c), λ r c. both.1 (r c))
 
-  placed_records : (l : List Guarded) → All (GuardedFits h) l → Same (All (PlacedRecord f K ν s.booleans) l) (All (Respects K s) l)
+  placed_records : (l : List Guarded) → AllByRecursion (GuardedFits h) l → Same (AllByRecursion (PlacedRecord f K ν s.booleans) l) (AllByRecursion (Respects K s) l)
   placed_records l fits = each_same (GuardedFits h) (PlacedRecord f K ν s.booleans) (Respects K s) l placed_record fits
 
   pub placed_in : (y : Zone) → ZoneFits h y → Same (PlacedIn f K ν s.booleans y) (LiesIn K s y)
@@ -79,7 +79,7 @@ pub shows_clocks : (C K : ℕ) (s : State) → Shows C same K (clock s) s
 shows_clocks C K s i le = omega (arith, ints, none_times K)
 
 -- after some resets
-zero_stays : (h : Head) (l : List Reset) → All (ResetFits h) l → (row_after l 0 ≡ 0) × (offset_after l 0 ≡ pos 0)
+zero_stays : (h : Head) (l : List Reset) → AllByRecursion (ResetFits h) l → (row_after l 0 ≡ 0) × (offset_after l 0 ≡ pos 0)
 unfolding row_after offset_after
 zero_stays h [] fits = (refl, refl)
 zero_stays h (r ∷ l) fits =
@@ -95,7 +95,7 @@ reset_shown K (r ∷ l) ν x n e = by (eqb r.clock n) (reset_shown K l ν x n e)
   by true rest = omega (arith, ints)
   by false rest = rest
 
-pub shows_after : (h : Head) (C K : ℕ) (ν : ℕ → ℤ) (s : State) (c : Command) → All (ResetFits h) c.resets → Shows C same K ν s → Shows C (after c.resets) K ν (after_command K c s)
+pub shows_after : (h : Head) (C K : ℕ) (ν : ℕ → ℤ) (s : State) (c : Command) → AllByRecursion (ResetFits h) c.resets → Shows C same K ν s → Shows C (after c.resets) K ν (after_command K c s)
 shows_after h C K ν s c fits shows zero le = omega (arith, ints, ap (λ (z : ℤ). z *ℤ pos K) (zero_stays h c.resets fits).1, none_times K)
 shows_after h C K ν s c fits shows (suc n) le =
     let e : s.clocks (suc n) ≡ ν (suc n) -ℤ ν 0 = omega (arith, ints, shows (suc n) le, none_times K) in

@@ -1,6 +1,6 @@
 -- What every solution of a table keeps, atom by atom. Assumes nothing.
 use Rattle.std.proofs.Common.{◌≡◌, ℕ, Bool, List, [], ◌∷◌, ℤ, Decides, sym, subst}
-use Rattle.std.specs.List.{AllByRecursion as All}
+use Rattle.std.specs.List.{AllByRecursion}
 use Rattle.bound.specs.Time.{Meaning}
 use Rattle.dbm.specs.Calls.{Solves, Keeps}
 use Rattle.dbm.specs.declared.table.Table.{Table}
@@ -17,20 +17,20 @@ module _ {B : Type 0} (admits : ℕ → Type 0) (allows : B → Meaning) (size :
   pub decides_placed : (r : Bool) (a p : Atom) → p ≡ place f a → Decides r (Keeps admits allows size none t p.i p.j p.d p.strict) → Decides r (KeepsPlaced a)
   decides_placed r a p e d = subst (λ (q : Atom). Decides r (Keeps admits allows size none t q.i q.j q.d q.strict)) e d
 
-  pub keeps_each : (l : List Atom) → All KeepsPlaced l → (k : ℕ) (ν : ℕ → ℤ) → admits k → Solves admits allows size none t k ν → All (Placed f k ν) l
+  pub keeps_each : (l : List Atom) → AllByRecursion KeepsPlaced l → (k : ℕ) (ν : ℕ → ℤ) → admits k → Solves admits allows size none t k ν → AllByRecursion (Placed f k ν) l
   keeps_each [] h k ν ok s = tt
   keeps_each (a ∷ l) h k ν ok s = (h.0 k ν ok s, keeps_each l h.1 k ν ok s)
 
-  pub each_keeps : (l : List Atom) → ((k : ℕ) (ν : ℕ → ℤ) → admits k → Solves admits allows size none t k ν → All (Placed f k ν) l) → All KeepsPlaced l
+  pub each_keeps : (l : List Atom) → ((k : ℕ) (ν : ℕ → ℤ) → admits k → Solves admits allows size none t k ν → AllByRecursion (Placed f k ν) l) → AllByRecursion KeepsPlaced l
   each_keeps [] h = tt
   each_keeps (a ∷ l) h = (λ k ν ok s. (h k ν ok s).0, each_keeps l (λ k ν ok s. (h k ν ok s).1))
 
   module _ (b : ℕ) (y : Zone) where
     -- the Booleans are the zone's: it is told by its atoms
-    pub held_by_atoms : (r : Bool) (l : List Atom) → b ≡ y.booleans → l ≡ y.atoms → Decides r ((k : ℕ) (ν : ℕ → ℤ) → admits k → Solves admits allows size none t k ν → All (Placed f k ν) l) → Decides r (HoldsAll admits allows size none t f b y)
+    pub held_by_atoms : (r : Bool) (l : List Atom) → b ≡ y.booleans → l ≡ y.atoms → Decides r ((k : ℕ) (ν : ℕ → ℤ) → admits k → Solves admits allows size none t k ν → AllByRecursion (Placed f k ν) l) → Decides r (HoldsAll admits allows size none t f b y)
     held_by_atoms r l same_booleans same_atoms d = (
-      λ e k ν ok s. record { booleans = same_booleans; atoms = subst (All (Placed f k ν)) same_atoms (d.0 e k ν ok s) },
-      λ h. d.1 (λ k ν ok s. subst (All (Placed f k ν)) (sym same_atoms) (h k ν ok s).atoms),
+      λ e k ν ok s. record { booleans = same_booleans; atoms = subst (AllByRecursion (Placed f k ν)) same_atoms (d.0 e k ν ok s) },
+      λ h. d.1 (λ k ν ok s. subst (AllByRecursion (Placed f k ν)) (sym same_atoms) (h k ν ok s).atoms),
     )
 
     -- other Booleans: some state is reached, and the zone does not hold it

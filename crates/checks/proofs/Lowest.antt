@@ -1,13 +1,13 @@
 -- The lowest zone by one property is the lowest by another that is true of the same zones. Assumes nothing.
 use Rattle.std.proofs.Common.{◌≡◌, ℕ, zero, suc, ◌+◌, ◌<◌, ◌≤◌, Bool, true, false, List, [], ◌∷◌, length, get_or, drop, Some, None, Option, sym, ap, ◌∙◌, subst, ⊎_elim, add-one, arith, length-drop, below_more}
-use Rattle.std.specs.List.{slice_get, AllByRecursion as All}
+use Rattle.std.specs.List.{slice_get, AllByRecursion}
 use Rattle.std.proofs.lemmas.Option.{slice_get_past}
 use Rattle.std.proofs.lemmas.Bool.{cases_lt, true≢false}
 use Rattle.bound.specs.Time.{Same}
 use Rattle.format.specs.Syntax.{Zone}
 use Rattle.checks.specs.Meanings.{Unstruck, Names}
 
-pub all_nth : {X : Type 0} (P : X → Type 0) (l : List X) (n : ℕ) (x : X) → All P l → slice_get l n ≡ Some x → P x
+pub all_nth : {X : Type 0} (P : X → Type 0) (l : List X) (n : ℕ) (x : X) → AllByRecursion P l → slice_get l n ≡ Some x → P x
 all_nth P [] n x all e = absurd (let z : ◌≡◌ {A = ℕ} 0 1 = cc in omega arith)
 all_nth P (y ∷ l) zero x all e = let same : y ≡ x = cc in subst P same all.0
 all_nth P (y ∷ l) (suc n) x all e = all_nth P l n x all.1 e

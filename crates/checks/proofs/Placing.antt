@@ -1,6 +1,6 @@
 -- The atoms of passed files can be placed in every frame that the checks use. Assumes nothing.
 use Rattle.std.proofs.Common.{◌≡◌, ℕ, zero, suc, ◌<◌, ◌≤◌, eqb, List, [], ◌∷◌, pos, sym, subst, arith}
-use Rattle.std.specs.List.{AllByRecursion as All}
+use Rattle.std.specs.List.{AllByRecursion}
 use Rattle.std.proofs.ByRecursion.{All-weaker}
 use Rattle.std.proofs.lemmas.Int.{ints}
 use Rattle.std.proofs.lemmas.Bool.{cond_both}
@@ -30,10 +30,10 @@ module _ (h : Head) (few : h.clocks ≤ 15) (n : ℕ) (f : Frame) (roomy : Roomy
     j_offset = roomy.offsets a.j;
   }
 
-  pub placeable_atoms : (l : List Atom) → All (AtomFits h) l → All (Placeable f n) l
+  pub placeable_atoms : (l : List Atom) → AllByRecursion (AtomFits h) l → AllByRecursion (Placeable f n) l
   placeable_atoms l fits = All-weaker (AtomFits h) (Placeable f n) placeable l fits
 
-  pub placeable_records : (l : List Guarded) → All (GuardedFits h) l → All (PlaceableRecord f n) l
+  pub placeable_records : (l : List Guarded) → AllByRecursion (GuardedFits h) l → AllByRecursion (PlaceableRecord f n) l
   placeable_records l fits = All-weaker (GuardedFits h) (PlaceableRecord f n) (λ g fit. placeable_atoms g.atoms fit.atoms.each) l fits
 
 nothing_off : OffsetFits (pos 0)
@@ -53,22 +53,22 @@ unfolding row_after
 row_after_in h n [] i some less = less
 row_after_in h n (r ∷ rs) i some less = cond_both (eqb r.clock i) 0 (row_after rs i) (λ k. k < n) (λ _. some) (λ _. row_after_in h n rs i some less)
 
-offset_after_in : (h : Head) (l : List Reset) (i : ℕ) → All (ResetFits h) l → OffsetFits (offset_after l i)
+offset_after_in : (h : Head) (l : List Reset) (i : ℕ) → AllByRecursion (ResetFits h) l → OffsetFits (offset_after l i)
 unfolding offset_after
 offset_after_in h [] i fits = nothing_off
 offset_after_in h (r ∷ rs) i fits = cond_both (eqb r.clock i) r.number (offset_after rs i) OffsetFits (λ _. record { low = fits.0.low; high = fits.0.high }) (λ _. offset_after_in h rs i fits.1)
 
-pub roomy_after : (h : Head) (C n : ℕ) (l : List Reset) → C < n → All (ResetFits h) l → Roomy C n (after l)
+pub roomy_after : (h : Head) (C n : ℕ) (l : List Reset) → C < n → AllByRecursion (ResetFits h) l → Roomy C n (after l)
 roomy_after h C n l less fits = record { rows = λ i le. row_after_in h n l i (omega arith) (omega arith); offsets = λ i. offset_after_in h l i fits }
 
 -- ---- as the code has them: the same frame, rows and atoms by other names
 
 module _ (h : Head) (few : h.clocks ≤ 15) (n rows : ℕ) (f g : Frame) (roomy : Roomy h.clocks n g) (same_frame : f ≡ g) (same_rows : rows ≡ n) where
-  pub fit_atoms : (l r : List Atom) → l ≡ r → All (AtomFits h) r → All (Placeable f rows) l
-  fit_atoms l r same_atoms fits = subst (λ (q : Frame). All (Placeable q rows) l) (sym same_frame) (subst (λ (k : ℕ). All (Placeable g k) l) (sym same_rows) (subst (λ (q : List Atom). All (Placeable g n) q) (sym same_atoms) (placeable_atoms h few n g roomy r fits)))
+  pub fit_atoms : (l r : List Atom) → l ≡ r → AllByRecursion (AtomFits h) r → AllByRecursion (Placeable f rows) l
+  fit_atoms l r same_atoms fits = subst (λ (q : Frame). AllByRecursion (Placeable q rows) l) (sym same_frame) (subst (λ (k : ℕ). AllByRecursion (Placeable g k) l) (sym same_rows) (subst (λ (q : List Atom). AllByRecursion (Placeable g n) q) (sym same_atoms) (placeable_atoms h few n g roomy r fits)))
 
-  pub fit_records : (l r : List Guarded) → l ≡ r → All (GuardedFits h) r → All (PlaceableRecord f rows) l
-  fit_records l r same_records fits = subst (λ (q : Frame). All (PlaceableRecord q rows) l) (sym same_frame) (subst (λ (k : ℕ). All (PlaceableRecord g k) l) (sym same_rows) (subst (λ (q : List Guarded). All (PlaceableRecord g n) q) (sym same_records) (placeable_records h few n g roomy r fits)))
+  pub fit_records : (l r : List Guarded) → l ≡ r → AllByRecursion (GuardedFits h) r → AllByRecursion (PlaceableRecord f rows) l
+  fit_records l r same_records fits = subst (λ (q : Frame). AllByRecursion (PlaceableRecord q rows) l) (sym same_frame) (subst (λ (k : ℕ). AllByRecursion (PlaceableRecord g k) l) (sym same_rows) (subst (λ (q : List Guarded). AllByRecursion (PlaceableRecord g n) q) (sym same_records) (placeable_records h few n g roomy r fits)))
 
-  pub fit_zones : (l r : List Zone) → l ≡ r → All (ZoneFits h) r → All (PlaceableZone f rows) l
-  fit_zones l r same_zones fits = subst (λ (q : Frame). All (PlaceableZone q rows) l) (sym same_frame) (subst (λ (k : ℕ). All (PlaceableZone g k) l) (sym same_rows) (subst (λ (q : List Zone). All (PlaceableZone g n) q) (sym same_zones) (All-weaker (ZoneFits h) (PlaceableZone g n) (λ y fit. placeable_atoms h few n g roomy y.atoms fit.atoms.each) r fits)))
+  pub fit_zones : (l r : List Zone) → l ≡ r → AllByRecursion (ZoneFits h) r → AllByRecursion (PlaceableZone f rows) l
+  fit_zones l r same_zones fits = subst (λ (q : Frame). AllByRecursion (PlaceableZone q rows) l) (sym same_frame) (subst (λ (k : ℕ). AllByRecursion (PlaceableZone g k) l) (sym same_rows) (subst (λ (q : List Zone). AllByRecursion (PlaceableZone g n) q) (sym same_zones) (All-weaker (ZoneFits h) (PlaceableZone g n) (λ y fit. placeable_atoms h few n g roomy y.atoms fit.atoms.each) r fits)))

@@ -1,6 +1,6 @@
 -- What the time check and the command check pour into their tables: their systems. Assumes nothing.
 use Rattle.std.proofs.Common.{◌≡◌, ℕ, suc, Bool, true, false, ℤ, pos, ◌-ℤ◌, Decides}
-use Rattle.std.specs.List.{AllByRecursion as All}
+use Rattle.std.specs.List.{AllByRecursion}
 use Rattle.bound.specs.Time.{Meaning, Same, Made}
 use Rattle.dbm.specs.Calls.{EmptyTable, Closes}
 use Rattle.dbm.specs.declared.table.Table.{Table}
@@ -23,13 +23,13 @@ module _ {B : Type 0} (admits : ℕ → Type 0) (allows : B → Meaning) (size :
   DelayBounds second u k ν = Made (pos 0) false k (ν 0 -ℤ ν second) × (u ≡ true → Made (pos 0) false k (ν second -ℤ ν 0))
 
   pub poured_time : (second : ℕ) (u : Bool) (t₀ t₁ t₂ t₃ t₄ : Table B) → Decides u (Urgent m.commands z.booleans) →
-      Adds admits allows size none (λ k ν. All (Placed (before second) k ν) z.atoms) t₀ t₁ →
+      Adds admits allows size none (λ k ν. AllByRecursion (Placed (before second) k ν) z.atoms) t₀ t₁ →
       Adds admits allows size none (λ k ν. PlacedInvariant (before second) k ν z.booleans m) t₁ t₂ →
       Adds admits allows size none (λ k ν. PlacedInvariant same k ν z.booleans m) t₂ t₃ →
       Adds admits allows size none (DelayBounds second u) t₃ t₄ →
       Adds admits allows size none (TimeSystem m z second) t₀ t₄
   poured_time second u t₀ t₁ t₂ t₃ t₄ urgent zone begins ends delay =
-      let P = λ (k : ℕ) (ν : ℕ → ℤ). All (Placed (before second) k ν) z.atoms in
+      let P = λ (k : ℕ) (ν : ℕ → ℤ). AllByRecursion (Placed (before second) k ν) z.atoms in
       let Q = λ (k : ℕ) (ν : ℕ → ℤ). PlacedInvariant (before second) k ν z.booleans m in
       let R = λ (k : ℕ) (ν : ℕ → ℤ). PlacedInvariant same k ν z.booleans m in
       let one = adds_both admits allows size none P Q t₀ t₁ t₂ zone begins in
@@ -41,13 +41,13 @@ module _ {B : Type 0} (admits : ℕ → Type 0) (allows : B → Meaning) (size :
       )) three
 
   pub poured_command : (c : Command) (t₀ t₁ t₂ t₃ : Table B) →
-      Adds admits allows size none (λ k ν. All (Placed same k ν) z.atoms) t₀ t₁ →
-      Adds admits allows size none (λ k ν. All (Placed same k ν) c.atoms) t₁ t₂ →
+      Adds admits allows size none (λ k ν. AllByRecursion (Placed same k ν) z.atoms) t₀ t₁ →
+      Adds admits allows size none (λ k ν. AllByRecursion (Placed same k ν) c.atoms) t₁ t₂ →
       Adds admits allows size none (λ k ν. PlacedInvariant (after c.resets) k ν (booleans_after_command c z.booleans) m) t₂ t₃ →
       Adds admits allows size none (CommandSystem m z c) t₀ t₃
   poured_command c t₀ t₁ t₂ t₃ zone guard invariant =
-      let P = λ (k : ℕ) (ν : ℕ → ℤ). All (Placed same k ν) z.atoms in
-      let Q = λ (k : ℕ) (ν : ℕ → ℤ). All (Placed same k ν) c.atoms in
+      let P = λ (k : ℕ) (ν : ℕ → ℤ). AllByRecursion (Placed same k ν) z.atoms in
+      let Q = λ (k : ℕ) (ν : ℕ → ℤ). AllByRecursion (Placed same k ν) c.atoms in
       let R = λ (k : ℕ) (ν : ℕ → ℤ). PlacedInvariant (after c.resets) k ν (booleans_after_command c z.booleans) m in
       let one = adds_both admits allows size none P Q t₀ t₁ t₂ zone guard in
       let two = adds_both admits allows size none (λ k ν. P k ν × Q k ν) R t₀ t₂ t₃ one invariant in

@@ -1,6 +1,6 @@
 -- Adding one atom after another, or one record after another, to a table. Assumes nothing.
 use Rattle.std.proofs.Common.{◌≡◌, ℕ, Bool, List, [], ◌∷◌, ℤ, ◌-ℤ◌, refl, ◌∙◌, subst}
-use Rattle.std.specs.List.{AllByRecursion as All}
+use Rattle.std.specs.List.{AllByRecursion}
 use Rattle.bound.specs.Time.{Meaning, Same, Made}
 use Rattle.dbm.specs.Calls.{Open, Solves, More}
 use Rattle.dbm.specs.declared.table.Table.{Table}
@@ -50,7 +50,7 @@ module _ {B : Type 0} (admits : ℕ → Type 0) (allows : B → Meaning) (size :
     pub record Pouring (left : List X) (old now : Table B) : Type 0 where
       pub is_open : Open admits allows size none now
       pub same_rows : now.n ≡ old.n
-      pub solutions : (k : ℕ) (ν : ℕ → ℤ) → admits k → Same (Solving now k ν × All (P k ν) left) (Solving old k ν × All (P k ν) all)
+      pub solutions : (k : ℕ) (ν : ℕ → ℤ) → admits k → Same (Solving now k ν × AllByRecursion (P k ν) left) (Solving old k ν × AllByRecursion (P k ν) all)
 
     pub pouring_none : (old : Table B) → Open admits allows size none old → Pouring all old old
     pouring_none old o = record { is_open = o; same_rows = refl; solutions = λ k ν ok. (λ s. s, λ s. s) }
@@ -72,7 +72,7 @@ module _ {B : Type 0} (admits : ℕ → Type 0) (allows : B → Meaning) (size :
     pub pouring_idle : (left rest : List X) (x : X) (old now : Table B) → left ≡ x ∷ rest → Pouring left old now → ((k : ℕ) (ν : ℕ → ℤ) → P k ν x) → Pouring rest old now
     pouring_idle left rest x old now e p idle = pouring_more left rest x old now now e p (record { is_open = p.is_open; same_rows = refl; solutions = λ k ν ok. (λ s. (s, idle k ν), λ s. s.0) })
 
-    pub pouring_all : (left : List X) (old now : Table B) → left ≡ [] → Pouring left old now → Adds admits allows size none (λ k ν. All (P k ν) all) old now
+    pub pouring_all : (left : List X) (old now : Table B) → left ≡ [] → Pouring left old now → Adds admits allows size none (λ k ν. AllByRecursion (P k ν) all) old now
     pouring_all left old now e p =
         let done : Pouring [] old now = subst (λ (l : List X). Pouring l old now) e p in
         record {

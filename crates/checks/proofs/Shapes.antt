@@ -1,6 +1,6 @@
 -- The frames of the code, one write after another. Assumes nothing.
 use Rattle.std.proofs.Common.{◌≡◌, ℕ, zero, suc, ◌/◌, ◌%◌, ◌<◌, ◌≤◌, true, false, cond, eqb, List, [], ◌∷◌, length, get_or, set, ℤ, pos, sym, refl, ap, ◌∙◌, subst, ⊎_elim, arith}
-use Rattle.std.specs.List.{AllByRecursion as All}
+use Rattle.std.specs.List.{AllByRecursion}
 use Rattle.std.proofs.lemmas.List.{get_or-set_same, get_or-set_other}
 use Rattle.std.proofs.ByRecursion.{All-weaker}
 use Rattle.std.proofs.lemmas.Bool.{cases_eq, cases_Bool, eq-eqb, ne_eqb}
@@ -28,17 +28,17 @@ unfolding over
 over_others v [] g h i e = e
 over_others v (r ∷ rs) g h i e = ap (λ x. cond (eqb r.clock i) (v r) x) (over_others v rs g h i e)
 
-over_past : {X : Type 0} (v : Reset → X) (l : List Reset) (g : ℕ → X) (i : ℕ) → All (λ q. i < q.clock) l → over v l g i ≡ g i
+over_past : {X : Type 0} (v : Reset → X) (l : List Reset) (g : ℕ → X) (i : ℕ) → AllByRecursion (λ q. i < q.clock) l → over v l g i ≡ g i
 unfolding over
 over_past v [] g i past = refl
 over_past v (r ∷ rs) g i past = let e : eqb r.clock i ≡ false = ne_eqb _ _ (λ s. omega (arith, past.0)) in rw e (over_past v rs g i past.1)
 
 -- the first reset written: the others are of higher clocks
-over_more : {X : Type 0} (v : Reset → X) (r : Reset) (rs : List Reset) (g h : ℕ → X) (i : ℕ) → All (λ q. r.clock < q.clock) rs → h r.clock ≡ v r → ((j : ℕ) → (j ≡ r.clock → ⊥) → h j ≡ g j) → over v (r ∷ rs) g i ≡ over v rs h i
+over_more : {X : Type 0} (v : Reset → X) (r : Reset) (rs : List Reset) (g h : ℕ → X) (i : ℕ) → AllByRecursion (λ q. r.clock < q.clock) rs → h r.clock ≡ v r → ((j : ℕ) → (j ≡ r.clock → ⊥) → h j ≡ g j) → over v (r ∷ rs) g i ≡ over v rs h i
 unfolding over
 over_more v r rs g h i higher here others =
     ⊎_elim
-    (λ e. let same_clock : eqb r.clock i ≡ true = eq-eqb _ _ (sym e) in rw same_clock (sym (over_past v rs h i (subst (λ (k : ℕ). All (λ q. k < q.clock) rs) (sym e) higher) ∙ ap h e ∙ here)))
+    (λ e. let same_clock : eqb r.clock i ≡ true = eq-eqb _ _ (sym e) in rw same_clock (sym (over_past v rs h i (subst (λ (k : ℕ). AllByRecursion (λ q. k < q.clock) rs) (sym e) higher) ∙ ap h e ∙ here)))
     (λ apart. let other : eqb r.clock i ≡ false = ne_eqb _ _ (λ e. apart (sym e)) in rw other (over_others v rs g h i (sym (others i apart))))
     (cases_eq i r.clock)
 
@@ -53,7 +53,7 @@ offset_over [] i = refl
 offset_over (r ∷ rs) i = ap (λ (x : ℤ). cond (eqb r.clock i) r.number x) (offset_over rs i)
 
 -- the resets of a mask are of the clocks from the first on
-pub resets_higher : (bits clock mask : ℕ) (ns : List ℕ) → All (λ q. clock ≤ q.clock) (resets_from bits clock mask ns)
+pub resets_higher : (bits clock mask : ℕ) (ns : List ℕ) → AllByRecursion (λ q. clock ≤ q.clock) (resets_from bits clock mask ns)
 unfolding resets_from
 resets_higher zero clock mask ns = tt
 resets_higher (suc bits) clock mask [] = tt
@@ -75,7 +75,7 @@ module _ (all : List Reset) where
     offsets = λ i. offset_over all i ∙ ap (λ (g : Frame). over (λ r. r.number) all g.offset i) (sym e);
   }
 
-  pub writing_more : (left rest : List Reset) (r : Reset) (f g : FrameCode) → Writing left f → left ≡ r ∷ rest → All (λ q. r.clock < q.clock) rest → Written f r g → Writing rest g
+  pub writing_more : (left rest : List Reset) (r : Reset) (f g : FrameCode) → Writing left f → left ≡ r ∷ rest → AllByRecursion (λ q. r.clock < q.clock) rest → Written f r g → Writing rest g
   writing_more left rest r f g w e higher written = record {
     rows = λ i. w.rows i ∙ ap (λ (l : List Reset). over (λ _. 0) l (shape f).row i) e ∙ over_more (λ _. 0) r rest (shape f).row (shape g).row i higher written.row written.other_rows;
     offsets = λ i. w.offsets i ∙ ap (λ (l : List Reset). over (λ q. q.number) l (shape f).offset i) e ∙ over_more (λ q. q.number) r rest (shape f).offset (shape g).offset i higher written.offset written.other_offsets;

@@ -1,7 +1,7 @@
 -- Each check, as a statement on the solutions of its system. Assumes nothing.
 use Rattle.std.proofs.Common.{◌≡◌, ℕ, zero, suc, ◌*◌, ◌<◌, ◌≤◌, Bool, ℤ, pos, ◌-ℤ◌, ◌*ℤ◌, sym, refl, subst, ap₂, one-mul, arith}
 use mathlib.Core.Path.{transport}
-use Rattle.std.specs.List.{AllByRecursion as All}
+use Rattle.std.specs.List.{AllByRecursion}
 use Rattle.std.proofs.ByRecursion.{All-weaker}
 use Rattle.bound.specs.Time.{Made, Same}
 use Rattle.bound.specs.Scales.{made_finer}
@@ -35,7 +35,7 @@ start_atom m K some a =
     (λ h. both.0 (subst (Made a.d a.strict K) at h), λ h. subst (Made a.d a.strict K) (sym at) (both.1 h))
 
 module _ (admits : ℕ → Type 0) (m : Model) where
-  pub start_system : (y : Zone) → (k : ℕ) × admits k → ((k : ℕ) → admits k → 1 ≤ k) → Same (HoldsStart admits m y) ((m.start ≡ y.booleans) × All (λ a. Made a.d a.strict 1 (pos 0)) y.atoms)
+  pub start_system : (y : Zone) → (k : ℕ) × admits k → ((k : ℕ) → admits k → 1 ≤ k) → Same (HoldsStart admits m y) ((m.start ≡ y.booleans) × AllByRecursion (λ a. Made a.d a.strict 1 (pos 0)) y.atoms)
   start_system y some positive = (
     λ starts. let lies = starts some.0 some.1 in (lies.booleans, All-weaker (AtomHolds some.0 (start_state m)) (λ a. Made a.d a.strict 1 (pos 0)) (λ a. (start_atom m some.0 (positive some.0 some.1) a).0) y.atoms lies.atoms),
     λ both K ok. record { booleans = both.0; atoms = All-weaker (λ a. Made a.d a.strict 1 (pos 0)) (AtomHolds K (start_state m)) (λ a. (start_atom m K (positive K ok) a).1) y.atoms both.1 },

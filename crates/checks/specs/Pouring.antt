@@ -1,6 +1,6 @@
 -- What a table says after more bounds were added to it. Assumes nothing.
 use Rattle.std.specs.Prelude.{◌≡◌, ℕ, ℤ}
-use Rattle.std.specs.List.{AllByRecursion as All}
+use Rattle.std.specs.List.{AllByRecursion}
 use Rattle.bound.specs.Time.{Meaning, Same}
 use Rattle.dbm.specs.Calls.{Open, Solves}
 use Rattle.dbm.specs.declared.table.Table.{Table}
@@ -10,7 +10,7 @@ use Rattle.checks.specs.Frames.{Placeable}
 
 -- every atom of the record can be placed
 abbrev pub PlaceableRecord : Frame → ℕ → Guarded → Type 0
-PlaceableRecord f n g = All (Placeable f n) g.atoms
+PlaceableRecord f n g = AllByRecursion (Placeable f n) g.atoms
 
 module _ {B : Type 0} (admits : ℕ → Type 0) (allows : B → Meaning) (size : B → ℕ) (none : B) where
   -- the solutions are those of before of which P is also true

@@ -1,6 +1,6 @@
 -- What a step reaches, and which zones hold it. Assumes nothing.
 use Rattle.std.specs.Prelude.{◌≡◌, ℕ, ℤ, pos}
-use Rattle.std.specs.List.{AllByRecursion as All}
+use Rattle.std.specs.List.{AllByRecursion}
 use Rattle.bound.specs.Time.{Meaning, Made}
 use Rattle.dbm.specs.Table.{Solution}
 use Rattle.dbm.specs.Calls.{Done, Solves, bound_at}
@@ -17,11 +17,11 @@ AtZero a = Made a.d a.strict 1 (pos 0)
 
 -- the zone holds the state with these Booleans and all clocks 0
 abbrev pub HoldsZero : ℕ → Zone → Type 0
-HoldsZero b y = (b ≡ y.booleans) × All AtZero y.atoms
+HoldsZero b y = (b ≡ y.booleans) × AllByRecursion AtZero y.atoms
 
 -- every atom of the zone can be placed
 abbrev pub PlaceableZone : Frame → ℕ → Zone → Type 0
-PlaceableZone f n y = All (Placeable f n) y.atoms
+PlaceableZone f n y = AllByRecursion (Placeable f n) y.atoms
 
 module _ {B : Type 0} (admits : ℕ → Type 0) (allows : B → Meaning) (size : B → ℕ) (none : B) where
   -- the zone holds all states that the solutions of a table show in a frame, with these Booleans

@@ -1,6 +1,6 @@
 -- A check as bounds on the differences of the values in one table. Assumes nothing.
 use Rattle.std.specs.Prelude.{◌≡◌, ℕ, zero, suc, false, cond, List, [], ◌∷◌, ℤ, pos, ◌+ℤ◌, ◌-ℤ◌, ◌==◌}
-use Rattle.std.specs.List.{AllByRecursion as All}
+use Rattle.std.specs.List.{AllByRecursion}
 use Rattle.bound.specs.Time.{Made}
 use Rattle.format.specs.Syntax.{Atom, Reset, Guarded, Command, Zone, Model}
 use Rattle.model.specs.States.{ConditionHolds}
@@ -43,25 +43,25 @@ module _ (f : Frame) (K : ℕ) (ν : ℕ → ℤ) where
 
   -- so do all atoms of the invariant records whose condition holds at these Booleans
   abbrev pub PlacedRecord : ℕ → Guarded → Type 0
-  PlacedRecord b g = ConditionHolds g.condition b → All Placed g.atoms
+  PlacedRecord b g = ConditionHolds g.condition b → AllByRecursion Placed g.atoms
 
   abbrev pub PlacedInvariant : ℕ → Model → Type 0
-  PlacedInvariant b m = All (PlacedRecord b) m.invariants
+  PlacedInvariant b m = AllByRecursion (PlacedRecord b) m.invariants
 
   -- the zone has these Booleans, and all its atoms hold of the values
   pub record PlacedIn (b : ℕ) (y : Zone) : Type 0 where
     pub booleans : b ≡ y.booleans
-    pub atoms : All Placed y.atoms
+    pub atoms : AllByRecursion Placed y.atoms
 
 -- the values that stand for a state of z that meets g
 pub record BadSystem (z : Zone) (g : Guarded) (K : ℕ) (ν : ℕ → ℤ) : Type 0 where
-  pub zone : All (Placed same K ν) z.atoms
-  pub bad : All (Placed same K ν) g.atoms
+  pub zone : AllByRecursion (Placed same K ν) z.atoms
+  pub bad : AllByRecursion (Placed same K ν) g.atoms
 
 -- The values that stand for a timed step from z: the state before it in the frame `before`, the state after it in the frame
 -- `same`, and the delay as the second zero less the first. The delay is not negative, and it is 0 where a command is urgent.
 pub record TimeSystem (m : Model) (z : Zone) (second : ℕ) (K : ℕ) (ν : ℕ → ℤ) : Type 0 where
-  pub zone : All (Placed (before second) K ν) z.atoms
+  pub zone : AllByRecursion (Placed (before second) K ν) z.atoms
   pub begins : PlacedInvariant (before second) K ν z.booleans m
   pub ends : PlacedInvariant same K ν z.booleans m
   pub forward : Made (pos 0) false K (ν 0 -ℤ ν second)
@@ -70,6 +70,6 @@ pub record TimeSystem (m : Model) (z : Zone) (second : ℕ) (K : ℕ) (ν : ℕ 
 -- The values that stand for a step of the command from z: the state before it in the frame `same`, the state after it in the
 -- frame `after`.
 pub record CommandSystem (m : Model) (z : Zone) (c : Command) (K : ℕ) (ν : ℕ → ℤ) : Type 0 where
-  pub zone : All (Placed same K ν) z.atoms
-  pub guard : All (Placed same K ν) c.atoms
+  pub zone : AllByRecursion (Placed same K ν) z.atoms
+  pub guard : AllByRecursion (Placed same K ν) c.atoms
   pub invariant : PlacedInvariant (after c.resets) K ν (booleans_after_command c z.booleans) m

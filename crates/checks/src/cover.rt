@@ -1,6 +1,6 @@
 // The zones that hold what is reached.
 ghost use Rattle.std.specs.Prelude.{ℕ, ◌≤◌, length, ℤ, Decides};
-ghost use Rattle.std.specs.List.{AllByRecursion as All};
+ghost use Rattle.std.specs.List.{AllByRecursion};
 ghost use Rattle.dbm.specs.Calls.{Done, Solves};
 ghost use Rattle.model.specs.Views.{atom_is, atoms_in};
 ghost use Rattle.model.specs.Files.{zones_left};
@@ -24,7 +24,7 @@ fn holds_at_zero(atom: Atom) -> bool
 
 // Whether all atoms hold where all clocks are 0.
 fn all_at_zero(atoms: Atoms) -> bool
-    ensures { Decides result (All AtZero (atoms_in atoms.entry)) }
+    ensures { Decides result (AllByRecursion AtZero (atoms_in atoms.entry)) }
 {
     let mut rest = atoms;
     while let Some((atom, more)) = rest.split_first() {
@@ -39,8 +39,8 @@ fn all_at_zero(atoms: Atoms) -> bool
 // Whether every solution of a closed table keeps all atoms, placed in a frame.
 fn keeps_all<B: Bound>(table: &Table<B>, frame: &Frame, atoms: Atoms) -> bool
     requires is_done { Done B.admits B.allows B.size B.unbounded table.now }
-    requires fit { All (Placeable (shape frame.now) table.now.n) (atoms_in atoms) }
-    ensures { Decides result ((k : ℕ) (ν : ℕ → ℤ) → B.admits k → Solves B.admits B.allows B.size B.unbounded table.now k ν → All (Placed (shape frame.now) k ν) (atoms_in atoms.entry)) }
+    requires fit { AllByRecursion (Placeable (shape frame.now) table.now.n) (atoms_in atoms) }
+    ensures { Decides result ((k : ℕ) (ν : ℕ → ℤ) → B.admits k → Solves B.admits B.allows B.size B.unbounded table.now k ν → AllByRecursion (Placed (shape frame.now) k ν) (atoms_in atoms.entry)) }
 {
     let mut rest = atoms;
     while let Some((atom, more)) = rest.split_first() {
@@ -103,7 +103,7 @@ impl<'t, 'a, B: Bound> Reached for States<'t, 'a, B> {
 
 // The lowest numbered zone that is not struck and holds all that is reached.
 pub(crate) fn lowest<R: Reached>(reached: &R, zones: Zones, struck: &[bool; 512]) -> Option<usize>
-    requires ready { All (ready reached.now) (zones_left zones) }
+    requires ready { AllByRecursion (ready reached.now) (zones_left zones) }
     requires few { length (zones_left zones) ≤ 512 }
     ensures { Names (holds reached.now) struck.now (zones_left zones.entry) result }
 {
@@ -128,7 +128,7 @@ pub(crate) fn cover<'t, 'a, B: Bound>(
     struck: &[bool; 512],
 ) -> Option<usize>
     requires told { Told B.admits B.allows B.size B.unbounded answer closed.now }
-    requires fit { All (PlaceableZone (shape frame.now) closed.now.n) (zones_left zones) }
+    requires fit { AllByRecursion (PlaceableZone (shape frame.now) closed.now.n) (zones_left zones) }
     requires few { length (zones_left zones) ≤ 512 }
     ensures { Names (Covered B.admits B.allows B.size B.unbounded answer closed.now (shape frame.now) booleans) struck.now (zones_left zones.entry) result }
 {

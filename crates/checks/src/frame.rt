@@ -2,7 +2,7 @@
 ghost use Rattle.std.specs.Prelude.{◌≡◌, ℕ, ◌<◌, ◌+ℤ◌, ◌-ℤ◌, ◌≤ℤ◌};
 ghost use Rattle.format.specs.Places.{least_number, greatest_number};
 ghost use Rattle.model.specs.Views.{atom_is, resets_in};
-ghost use Rattle.checks.specs.Systems.{same as same_frame, before as before-frame, after as After-frame};
+ghost use Rattle.checks.specs.Systems.{same as same_frame, before as before_frame, after as AfterFrame};
 ghost use Rattle.checks.specs.Frames.{shape, place, OffsetFits, Placeable, Written};
 
 use model::{Atom, Resets};
@@ -38,7 +38,7 @@ impl Frame {
 
     // Before a delay: clock 0 in the row of the second zero.
     pub(crate) fn before(second: usize) -> Frame
-        ensures { shape result ≡ before-frame second }
+        ensures { shape result ≡ before_frame second }
     {
         let mut frame = Frame::same();
         frame.rows[0] = second;
@@ -56,7 +56,7 @@ impl Frame {
 
     // After some resets: a reset clock in the row of zero, with its number as offset.
     pub(crate) fn after(resets: Resets) -> Frame
-        ensures { shape result ≡ After-frame (resets_in resets.entry) }
+        ensures { shape result ≡ AfterFrame (resets_in resets.entry) }
     {
         let mut frame = Frame::same();
         let mut rest = resets;

@@ -1,6 +1,6 @@
 // Pouring atoms into a table.
 ghost use Rattle.std.specs.Prelude.{◌≤◌, length};
-ghost use Rattle.std.specs.List.{AllByRecursion as All};
+ghost use Rattle.std.specs.List.{AllByRecursion};
 ghost use Rattle.dbm.specs.Calls.{Open, EmptyTable};
 ghost use Rattle.model.specs.Views.{atoms_in};
 ghost use Rattle.model.specs.Files.{invariants_left};
@@ -28,8 +28,8 @@ pub(crate) fn begin<B: Bound>(area: &mut [B], n: usize) -> Table<B>
 // Adds atoms to a table, placed in a frame.
 pub(crate) fn pour<B: Bound>(table: &mut Table<B>, frame: &Frame, atoms: Atoms)
     requires is_open { Open B.admits B.allows B.size B.unbounded table.old }
-    requires fit { All (Placeable (shape frame.now) table.old.n) (atoms_in atoms) }
-    ensures { Adds B.admits B.allows B.size B.unbounded (λ k ν. All (Placed (shape frame.now) k ν) (atoms_in atoms.entry)) table.old table.new }
+    requires fit { AllByRecursion (Placeable (shape frame.now) table.old.n) (atoms_in atoms) }
+    ensures { Adds B.admits B.allows B.size B.unbounded (λ k ν. AllByRecursion (Placed (shape frame.now) k ν) (atoms_in atoms.entry)) table.old table.new }
 {
     let mut rest = atoms;
     while let Some((atom, more)) = rest.split_first() {
@@ -47,8 +47,8 @@ pub(crate) fn pour_invariant<B: Bound>(
     booleans: u32,
 )
     requires is_open { Open B.admits B.allows B.size B.unbounded table.old }
-    requires fit { All (PlaceableRecord (shape frame.now) table.old.n) (invariants_left invariants) }
-    ensures { Adds B.admits B.allows B.size B.unbounded (λ k ν. All (PlacedRecord (shape frame.now) k ν booleans) (invariants_left invariants.entry)) table.old table.new }
+    requires fit { AllByRecursion (PlaceableRecord (shape frame.now) table.old.n) (invariants_left invariants) }
+    ensures { Adds B.admits B.allows B.size B.unbounded (λ k ν. AllByRecursion (PlacedRecord (shape frame.now) k ν booleans) (invariants_left invariants.entry)) table.old table.new }
 {
     let mut rest = invariants;
     while let Some((record, more)) = rest.split_first() {

@@ -2,7 +2,7 @@
 use Rattle.std.proofs.Common.{◌≡◌, ℕ, zero, suc, ◌+◌, ◌/◌, ◌%◌, ◌^◌, ◌<◌, ◌≤◌, Bool, true, false, not, ◌&&◌, T, eqb, ltb, leb, List, [], ◌∷◌, ◌++◌, length, take, drop, ℤ, pos, ◌≤ℤ◌, sym, refl, ap, ◌∙◌, subst, ⊎_elim, add-zero, add-one, arith}
 use lib.Count.{ones}
 use lib.Signed.{le_z}
-use Rattle.std.specs.List.{AllByRecursion as All}
+use Rattle.std.specs.List.{AllByRecursion}
 use Rattle.std.proofs.lemmas.Nat.{shr_below}
 use Rattle.std.proofs.ByRecursion.{All-weaker}
 use Rattle.std.proofs.lemmas.List.{take_at, drop_at, length-take-le}
@@ -34,7 +34,7 @@ module _ (h : Head) (t : Tally) where
   -- ---- atoms
 
   pub record AtomsRun (x : Context) (a : ℕ) (ws : List ℕ) : Type 0 where
-    pub each : All (AtomFits h) (atoms_of (body ws))
+    pub each : AllByRecursion (AtomFits h) (atoms_of (body ws))
     pub few : a + length (atoms_of (body ws)) ≤ 64
     pub urgent_without : x.urgent ≡ true → atoms_of (body ws) ≡ []
 
@@ -95,7 +95,7 @@ module _ (h : Head) (t : Tally) where
 
   pub record NumbersRun (x : Context) (n i : ℕ) (ws : List ℕ) : Type 0 where
     pub enough : n ≤ length ws
-    pub each : All ResetNumber (take n ws)
+    pub each : AllByRecursion ResetNumber (take n ws)
     pub bodies : body ws ≡ take n ws ++ body (drop n ws)
     pub on : Passes h t x (atomOr 0) (i + n) (drop n ws)
 
@@ -123,21 +123,21 @@ module _ (h : Head) (t : Tally) where
   no_resets (suc bits) clock [] = refl
   no_resets (suc bits) clock (n ∷ ns) = no_resets bits (suc clock) (n ∷ ns)
 
-  resets_between : (bits clock k mask : ℕ) (ns : List ℕ) → mask < 2 ^ k → All ResetNumber ns → All (Between clock (clock + k)) (resets_from bits clock mask ns)
+  resets_between : (bits clock k mask : ℕ) (ns : List ℕ) → mask < 2 ^ k → AllByRecursion ResetNumber ns → AllByRecursion (Between clock (clock + k)) (resets_from bits clock mask ns)
   unfolding resets_from
   resets_between zero clock k mask ns below each = tt
   resets_between (suc bits) clock k mask [] below each = tt
   resets_between (suc bits) clock zero mask (n ∷ ns) below each =
       let none : mask ≡ 0 = omega arith in
-      subst (λ (m : ℕ). All (Between clock (clock + 0)) (resets_from (suc bits) clock m (n ∷ ns))) (sym none) (rw (no_resets (suc bits) clock (n ∷ ns)) tt)
+      subst (λ (m : ℕ). AllByRecursion (Between clock (clock + 0)) (resets_from (suc bits) clock m (n ∷ ns))) (sym none) (rw (no_resets (suc bits) clock (n ∷ ns)) tt)
   resets_between (suc bits) clock (suc k) mask (n ∷ ns) below each =
       let less : mask / 2 < 2 ^ k = shr_below mask k 1 (subst (λ (e : ℕ). mask < 2 ^ e) (sym (add-one k)) below) in
       let wider : (r : Reset) → Between (suc clock) (suc clock + k) r → Between clock (clock + suc k) r = λ r b. (omega (arith, b.0), omega (arith, b.1), b.2, b.3) in
-      cond_both (eqb (mask % 2) 1) _ _ (All (Between clock (clock + suc k)))
+      cond_both (eqb (mask % 2) 1) _ _ (AllByRecursion (Between clock (clock + suc k)))
       (λ _. ((omega arith, omega arith, each.0.0, each.0.1), All-weaker _ _ wider _ (resets_between bits (suc clock) k (mask / 2) ns less each.1)))
       (λ _. All-weaker _ _ wider _ (resets_between bits (suc clock) k (mask / 2) (n ∷ ns) less each))
 
-  pub resets_fit : (mask : ℕ) (ns : List ℕ) → mask < 2 ^ h.clocks → All ResetNumber ns → All (ResetFits h) (resets_from 15 1 mask ns)
+  pub resets_fit : (mask : ℕ) (ns : List ℕ) → mask < 2 ^ h.clocks → AllByRecursion ResetNumber ns → AllByRecursion (ResetFits h) (resets_from 15 1 mask ns)
   resets_fit mask ns below each =
       All-weaker (Between 1 (1 + h.clocks)) (ResetFits h) (λ r b. record { a_clock = b.0; known = omega (arith, b.1); low = b.2; high = b.3 }) _ (resets_between 15 1 h.clocks mask ns below each)
 
@@ -181,7 +181,7 @@ module _ (h : Head) (t : Tally) where
         sets_known = set.known;
         clears_known = clear.known;
         disjoint = eqb-true _ _ clear.apart;
-        resets = subst (λ (l : List ℕ). All (ResetFits h) (resets_from 15 1 (content r) l)) (sym front) (resets_fit (content r) (take n ws) reset.known numbers.each);
+        resets = subst (λ (l : List ℕ). AllByRecursion (ResetFits h) (resets_from 15 1 (content r) l)) (sym front) (resets_fit (content r) (take n ws) reset.known numbers.each);
         atoms = subst (λ (l : List ℕ). AtomsFit h (atoms_of l)) (sym back) (record { each = atoms.each; few = omega (arith, atoms.few) });
         urgent_without = λ u. ap atoms_of back ∙ atoms.urgent_without (urgent ∙ u);
       })

@@ -1,6 +1,6 @@
 -- The records of each kind in a walk that passed: each is within its ranges, and they are counted. Assumes nothing.
 use Rattle.std.proofs.Common.{◌≡◌, ℕ, suc, ◌+◌, ◌<◌, ◌≤◌, true, false, cond, ◌||◌, eqb, List, [], ◌∷◌, length, sym, refl, ap, ◌∙◌, subst, ⊎_elim, arith}
-use Rattle.std.specs.List.{AllByRecursion as All}
+use Rattle.std.specs.List.{AllByRecursion}
 use Rattle.std.proofs.lemmas.Bool.{eqb-true, cases_Bool, cases_eq, true≢false, ne_eqb, eq-eqb}
 use Rattle.std.proofs.lemmas.Bool.Decides.{nat_tests}
 use Rattle.format.specs.Words.{kind, continues}
@@ -82,7 +82,7 @@ pub record CountedKind (h : Head) (t : Tally) (k limit : ℕ) (count : Tally →
 
 module _ (h : Head) (t : Tally) (k limit : ℕ) (count : Tally → ℕ) (P : List ℕ → Type 0) (c : CountedKind h t k limit count P) where
   pub record Run (u : Tally) (ws : List ℕ) : Type 0 where
-    pub each : All P (of_kind k (records ws))
+    pub each : AllByRecursion P (of_kind k (records ws))
     pub counted : count t ≡ count u + length (of_kind k (records ws))
     pub few : count u ≤ limit → count t ≤ limit
 

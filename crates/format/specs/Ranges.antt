@@ -1,6 +1,6 @@
 -- What is known of a file that passed: the ranges of all that it names. Assumes nothing.
 use Rattle.std.specs.Prelude.{◌≡◌, ℕ, ◌+◌, ◌*◌, ◌^◌, ◌<◌, ◌≤◌, true, List, [], length, ℤ, pos, ◌≤ℤ◌, bit_and}
-use Rattle.std.specs.List.{AllByRecursion as All}
+use Rattle.std.specs.List.{AllByRecursion}
 use Rattle.format.specs.Words.{words}
 use Rattle.format.specs.Places.{Head, least_number, greatest_number}
 use Rattle.format.specs.LookOver.{Counts, look_over_answer}
@@ -17,7 +17,7 @@ module _ (h : Head) where
     pub high : a.d ≤ℤ greatest_number
 
   pub record AtomsFit (l : List Atom) : Type 0 where
-    pub each : All AtomFits l
+    pub each : AllByRecursion AtomFits l
     pub few : length l ≤ 64
 
   -- Booleans below B
@@ -40,7 +40,7 @@ module _ (h : Head) where
     pub sets_known : c.sets < 2 ^ h.booleans
     pub clears_known : c.clears < 2 ^ h.booleans
     pub disjoint : bit_and c.clears c.sets ≡ 0
-    pub resets : All ResetFits c.resets
+    pub resets : AllByRecursion ResetFits c.resets
     pub atoms : AtomsFit c.atoms
     pub urgent_without : c.urgent ≡ true → c.atoms ≡ []
 
@@ -55,15 +55,15 @@ pub record ModelFits (m : Model) : Type 0 where
   pub few_booleans : m.booleans ≤ 24
   pub few_clocks : m.clocks ≤ 15
   pub start_known : m.start < 2 ^ m.booleans
-  pub invariants : All (GuardedFits (head_of_model m)) m.invariants
-  pub commands : All (CommandFits (head_of_model m)) m.commands
-  pub bads : All (GuardedFits (head_of_model m)) m.bads
+  pub invariants : AllByRecursion (GuardedFits (head_of_model m)) m.invariants
+  pub commands : AllByRecursion (CommandFits (head_of_model m)) m.commands
+  pub bads : AllByRecursion (GuardedFits (head_of_model m)) m.bads
   pub few_invariants : length m.invariants ≤ 32
   pub few_commands : length m.commands ≤ 64
   pub few_bads : length m.bads ≤ 32
 
 pub record ZonesFit (h : Head) (l : List Zone) : Type 0 where
-  pub zones : All (ZoneFits h) l
+  pub zones : AllByRecursion (ZoneFits h) l
   pub few_zones : length l ≤ 512
 
 -- what was read is what the files say

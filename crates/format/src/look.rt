@@ -3,7 +3,7 @@ ghost use Rattle.std.specs.Prelude.{◌≡◌, ◌+◌, ◌*◌, ◌≤◌, true
 ghost use Rattle.format.specs.Words.{words};
 ghost use Rattle.format.specs.Places.Scan.{passed};
 ghost use Rattle.format.specs.LookOver.{file_walk, look_over_answer, head_fits, head_right, head_at, ends_right};
-ghost use Rattle.format.specs.Places.File.{zones as zones-file};
+ghost use Rattle.format.specs.Places.File.{zones as zones_file};
 ghost use Rattle.format.specs.LookOver.{look_list_answer};
 ghost use Rattle.format.specs.LookOver.Outcome.{pass};
 ghost use Rattle.format.specs.Ranges.{PassedFiles};
@@ -127,7 +127,7 @@ fn look_file(file: File, like: Option<u32>, bytes: &[u8]) -> Result<Tally, FileF
 
 // Question 12, and what was read: the start check, and for each zone its bad checks, its time check and its command checks.
 fn sum_up(head: u32, model: Tally, list: Tally) -> Result<Summary, FileFault>
-    ensures { MatchResult result (λ s. look_list_answer head (tally_of model) (passed (tally_of list)) ≡ pass (counts s)) (λ f. look_list_answer head (tally_of model) (passed (tally_of list)) ≡ file_told zones-file f) }
+    ensures { MatchResult result (λ s. look_list_answer head (tally_of model) (passed (tally_of list)) ≡ pass (counts s)) (λ f. look_list_answer head (tally_of model) (passed (tally_of list)) ≡ file_told zones_file f) }
 {
     let checks = 1
         + u64::from(list.zones) * (u64::from(model.bads) + 1 + u64::from(model.commands));
@@ -147,7 +147,7 @@ fn sum_up(head: u32, model: Tally, list: Tally) -> Result<Summary, FileFault>
 
 // Questions 1 to 12 to a list, where the model passed with this first word and these records.
 fn look_list(head: u32, model: Tally, list: &[u8]) -> Result<Summary, FileFault>
-    ensures { MatchResult result (λ s. look_list_answer head (tally_of model) (file_walk zones-file (Some head) list.now) ≡ pass (counts s)) (λ f. look_list_answer head (tally_of model) (file_walk zones-file (Some head) list.now) ≡ file_told zones-file f) }
+    ensures { MatchResult result (λ s. look_list_answer head (tally_of model) (file_walk zones_file (Some head) list.now) ≡ pass (counts s)) (λ f. look_list_answer head (tally_of model) (file_walk zones_file (Some head) list.now) ≡ file_told zones_file f) }
 {
     let listed = look_file(File::List, Some(head), list)?;
     sum_up(head, model, listed)

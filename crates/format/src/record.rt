@@ -1,6 +1,6 @@
 // The reader of records.
 ghost use Rattle.std.specs.Prelude.{◌≡◌, ◌+◌, ◌*◌, ◌^◌, ◌<◌, true, false, MatchResult, ◌≢◌, nat_lt};
-ghost use Rattle.format.specs.Words.{kind as kind-of, content as content-of};
+ghost use Rattle.format.specs.Words.{kind as kind_of, content as content_of};
 ghost use Rattle.format.specs.Places.{may_stand_here, unused_zero, names_known, within_limit, starts_record};
 ghost use Rattle.format.specs.Faults.{six_seven, record_stop};
 ghost use Rattle.format.specs.Words.{record_length};
@@ -39,9 +39,9 @@ fn narrow(content: u32, width: u32, place: usize) -> Result<u32, WordFault>
 
 // The record that has these bytes and begins with this word.
 fn record_of<'a>(word: u32, part: &'a [u8]) -> Record<'a>
-    requires starts { starts_record (kind-of word) ≡ true }
-    requires no_end { kind-of word ≢ 15 }
-    ensures case { begun_by result ≡ kind-of word }
+    requires starts { starts_record (kind_of word) ≡ true }
+    requires no_end { kind_of word ≢ 15 }
+    ensures case { begun_by result ≡ kind_of word }
     ensures bytes { part_of result ≡ part.now }
 {
     match word >> 28 {
@@ -57,8 +57,8 @@ fn record_of<'a>(word: u32, part: &'a [u8]) -> Record<'a>
 impl Scope {
     // Questions 6 and 7 at a word that begins a record, or ends the file.
     fn begins(&self, word: u32, place: usize) -> Result<u32, WordFault>
-        requires { starts_record (kind-of word) ≡ true }
-        ensures { result ≡ six_seven (unused_zero word) (names_known (head_of self.now) (kind-of word) word) place (content-of word) }
+        requires { starts_record (kind_of word) ≡ true }
+        ensures { result ≡ six_seven (unused_zero word) (names_known (head_of self.now) (kind_of word) word) place (content_of word) }
     {
         let content = content(word);
         match word >> 28 {
@@ -93,8 +93,8 @@ impl Text<'_> {
 
     // The words that continue the record which begins with this word: the place of the word after them.
     fn body(&self, word: u32) -> Result<usize, RecordFault>
-        requires starts { starts_record (kind-of word) ≡ true }
-        requires no_end { kind-of word ≢ 15 }
+        requires starts { starts_record (kind_of word) ≡ true }
+        requires no_end { kind_of word ≢ 15 }
         ensures { MatchResult result (λ k. (k < 300) × ((x : Context) (s : Slot) → Begins s word → Goes self.now (context_after x s word) (slot_after x s word) 1 (rest_slot s) k)) (λ f. (x : Context) (s : Slot) → Begins s word → Stops self.now (context_after x s word) (slot_after x s word) 1 f) }
     {
         match word >> 28 {
@@ -108,8 +108,8 @@ impl Text<'_> {
     // How many words the record has that begins with this word.
     fn record_words(&self, word: u32) -> Result<usize, RecordFault>
         requires here { At self.now 0 word }
-        requires starts { starts_record (kind-of word) ≡ true }
-        requires no_end { kind-of word ≢ 15 }
+        requires starts { starts_record (kind_of word) ≡ true }
+        requires no_end { kind_of word ≢ 15 }
         ensures { MatchResult result (λ n. (n < 300) × (record_length (words_of self.now) ≡ n) × ((x : Context) (s : Slot) → Begins s word → reading self.now (context_after x s word) (slot_after x s word) 1 ≡ reading self.now (context_after x s word) (rest_slot s) n)) (λ f. (x : Context) (s : Slot) → Begins s word → Stops self.now (context_after x s word) (slot_after x s word) 1 f) }
     {
         let words = self.body(word)?;
@@ -146,7 +146,7 @@ impl Place {
 
     // Question 11 at a record's first word.
     fn has_room(&self, word: u32) -> bool
-        requires { kind-of word ≢ 9 }
+        requires { kind_of word ≢ 9 }
         ensures { result ≡ within_limit (context_of self.now) (slot_of self.now) word }
     {
         match word >> 28 {

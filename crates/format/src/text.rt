@@ -1,9 +1,9 @@
 // The reader of words: the words of a file from some word on, each asked the questions of its place.
 ghost use Rattle.std.specs.Prelude.{◌≡◌, ℕ, ◌+◌, ◌*◌, ◌^◌, ◌<◌, ◌≤◌, not, ◌&&◌, [], ◌∷◌, drop, pos, ◌-ℤ◌, MatchOption, MatchResult, ◌==◌, ◌≢◌, count_ones, int_le, nat_le, nat_lt};
 ghost use Rattle.format.specs.Words.{words, atom_i, atom_j, continued};
-ghost use Rattle.format.specs.Words.{continues as continues-of};
-ghost use Rattle.format.specs.Words.{content as content-of};
-ghost use Rattle.format.specs.Words.{kind as kind-of};
+ghost use Rattle.format.specs.Words.{continues as continues_of};
+ghost use Rattle.format.specs.Words.{content as content_of};
+ghost use Rattle.format.specs.Words.{kind as kind_of};
 ghost use Rattle.format.specs.Places.{Context, Slot, after_condition, owing};
 ghost use Rattle.format.specs.Places.Slot.{onesMask, setMask, resetMask, atomOr, between};
 ghost use Rattle.format.specs.Reading.{At, Goes, Stops, TakesMask, TakesNumber, BeginsNext, Mask, Number, first, words_of};
@@ -39,14 +39,14 @@ const GREATEST: i32 = 1_000_000;
 
 // Masks, resets, atoms and numbers continue a record.
 fn continues(word: u32) -> bool
-    ensures { result ≡ continues-of word }
+    ensures { result ≡ continues_of word }
 {
     matches!(word >> 28, MASK | RESET | ATOM | NUMBER)
 }
 
 // The low 28 bits of a word.
 pub fn content(word: u32) -> u32
-    ensures { result ≡ content-of word }
+    ensures { result ≡ content_of word }
 {
     word & 0x0fff_ffff
 }
@@ -80,7 +80,7 @@ impl Scope {
 
     // Questions 6 and 7 at an atom.
     fn clocks_of(&self, atom: u32, place: usize) -> Result<u32, WordFault>
-        ensures { result ≡ six_seven (nat_lt (content-of atom) (2 ^ 9)) (nat_le (atom_i atom) self.now.clocks && nat_le (atom_j atom) self.now.clocks && not (atom_i atom == atom_j atom)) place atom }
+        ensures { result ≡ six_seven (nat_lt (content_of atom) (2 ^ 9)) (nat_le (atom_i atom) self.now.clocks && nat_le (atom_j atom) self.now.clocks && not (atom_i atom == atom_j atom)) place atom }
     {
         if content(atom) >= 1 << 9 {
             return Err(WordFault::UnusedBits(place));
@@ -118,7 +118,7 @@ impl Text<'_> {
     // Question 5 where words of one kind alone may stand: the content of the word at k.
     fn expect(&self, kind: u32, k: usize) -> Result<u32, RecordFault>
         requires { k < 1000 }
-        ensures { MatchResult result (λ m. ((w : ℕ) × At self.now k w × (kind-of w ≡ kind) × (content-of w ≡ m))) (λ f. (f ≡ Misplaced (first self.now + k)) × ((w : ℕ) → At self.now k w → kind-of w ≢ kind)) }
+        ensures { MatchResult result (λ m. ((w : ℕ) × At self.now k w × (kind_of w ≡ kind) × (content_of w ≡ m))) (λ f. (f ≡ Misplaced (first self.now + k)) × ((w : ℕ) → At self.now k w → kind_of w ≢ kind)) }
     {
         match word_at(self.bytes, k) {
             Some(w) if w >> 28 == kind => Ok(content(w)),
@@ -194,7 +194,7 @@ impl Text<'_> {
 
     // The word at k, where it is an atom.
     fn atom_at(&self, k: usize) -> Option<u32>
-        ensures { MatchOption result ((w : ℕ) → At self.now k w → kind-of w ≢ 9) (λ w. At self.now k w × (kind-of w ≡ 9)) }
+        ensures { MatchOption result ((w : ℕ) → At self.now k w → kind_of w ≢ 9) (λ w. At self.now k w × (kind_of w ≡ 9)) }
     {
         match word_at(self.bytes, k) {
             Some(word) if word >> 28 == ATOM => Some(word),
@@ -206,7 +206,7 @@ impl Text<'_> {
     fn atom(&self, word: u32, k: usize, urgent: bool, count: usize) -> Result<(), RecordFault>
         requires near { k < 900 }
         requires here { At self.now k word }
-        requires is_atom { kind-of word ≡ 9 }
+        requires is_atom { kind_of word ≡ 9 }
         ensures { MatchResult result (λ _. (count < 64) × ((x : Context) → x.urgent ≡ urgent → Goes self.now x (atomOr count) k (atomOr (count + 1)) (k + 2))) (λ f. (x : Context) → x.urgent ≡ urgent → Stops self.now x (atomOr count) k f) }
     {
         let place = self.place(k);

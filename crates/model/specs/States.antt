@@ -1,6 +1,6 @@
 -- The states of a model at a scale, and what holds in them. Assumes nothing.
 use Rattle.std.specs.Prelude.{◌≡◌, ℕ, zero, suc, List, ℤ, pos, ◌-ℤ◌, bit_and}
-use Rattle.std.specs.List.{AllByRecursion as All}
+use Rattle.std.specs.List.{AllByRecursion}
 use Rattle.bound.specs.Time.{Made}
 use Rattle.format.specs.Syntax.{Atom, Condition, Guarded, Zone, Model}
 
@@ -28,7 +28,7 @@ abbrev pub AtomHolds : ℕ → State → Atom → Type 0
 AtomHolds K s a = Made a.d a.strict K (clock s a.i -ℤ clock s a.j)
 
 abbrev pub AtomsHold : ℕ → State → List Atom → Type 0
-AtomsHold K s l = All (AtomHolds K s) l
+AtomsHold K s l = AllByRecursion (AtomHolds K s) l
 
 -- if the record's condition holds, all its atoms do
 abbrev pub Respects : ℕ → State → Guarded → Type 0
@@ -36,7 +36,7 @@ Respects K s g = ConditionHolds g.condition s.booleans → AtomsHold K s g.atoms
 
 -- the invariant: so for each invariant record
 abbrev pub Invariant : ℕ → Model → State → Type 0
-Invariant K m s = All (Respects K s) m.invariants
+Invariant K m s = AllByRecursion (Respects K s) m.invariants
 
 -- the record's condition and all its atoms hold
 pub record Meets (K : ℕ) (s : State) (g : Guarded) : Type 0 where

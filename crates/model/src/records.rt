@@ -1,7 +1,7 @@
 // The records of a kind in a file, one after another.
 ghost use Rattle.std.specs.Prelude.{◌≡◌, [], length, drop, Some, None, MatchOption};
 ghost use Rattle.std.specs.List.{slice_get};
-ghost use Rattle.format.specs.Words.{words, continued, continues as continues-of};
+ghost use Rattle.format.specs.Words.{words, continued, continues as continues_of};
 ghost use Rattle.model.specs.Records.{having, Begins, First, Next};
 
 use format::word_at;
@@ -22,7 +22,7 @@ fn first_of(bytes: &[u8], kind: u32) -> Option<usize>
 
 // Masks, resets, atoms and numbers continue a record.
 fn continues(word: u32) -> bool
-    ensures { result ≡ continues-of word }
+    ensures { result ≡ continues_of word }
 {
     matches!(word >> 28, 4 | 5 | 9 | 10)
 }

@@ -1,6 +1,6 @@
 // The records of a model and of a list, each a part of its file.
 ghost use Rattle.std.specs.Prelude.{◌≡◌, Decides, slice_index};
-ghost use Rattle.format.specs.Words.{words, content as content-of};
+ghost use Rattle.format.specs.Words.{words, content as content_of};
 ghost use Rattle.format.specs.Syntax.{condition_of_words};
 ghost use Rattle.model.specs.States.{ConditionHolds};
 ghost use Rattle.model.specs.Steps.{booleans_after_command};
@@ -88,7 +88,7 @@ impl<'a> Command<'a> {
 
     // The clocks that it resets, and how many they are.
     fn reset_mask(self) -> u32
-        ensures { result ≡ content-of (slice_index (words self.entry.bytes.now) 5) }
+        ensures { result ≡ content_of (slice_index (words self.entry.bytes.now) 5) }
     {
         content(word(self.bytes, 5))
     }

@@ -1,4 +1,4 @@
-//! The printed lines, and what is told of a fault.
+//! The printed line of a look-over, and what is told of a fault.
 #![tactic(auto)]
 
 ghost use Rattle.std.specs.Prelude.{◌≡◌, Some};
@@ -6,9 +6,6 @@ ghost use Rattle.format.specs.Faults.{counts, outcome, told, file_told, record_t
 ghost use Rattle.format.specs.Reading.{file_of};
 ghost use Rattle.report.specs.Line.{listed, printed, reported, file_name, layer_name};
 
-mod ended;
-
-pub use ended::Ended;
 use format::{Fault, File, FileFault, RecordFault, Summary, WordFault};
 use std::fmt;
 

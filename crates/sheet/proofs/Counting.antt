@@ -1,6 +1,6 @@
 -- How far the checks of a list are settled, after any series of calls. Assumes nothing.
 use Rattle.std.proofs.Common.{◌≡◌, ℕ, zero, suc, ◌+◌, ◌<◌, ◌≤◌, min, Bool, true, false, ◌⊎◌, List, [], ◌∷◌, length, Some, None, Option, sym, refl, ap, ◌∙◌, subst, ⊎_elim, arith}
-use Rattle.std.specs.List.{slice_get, AllByRecursion as All}
+use Rattle.std.specs.List.{slice_get, AllByRecursion}
 use Rattle.std.proofs.lemmas.Option.{slice_get_past}
 use Rattle.std.proofs.lemmas.Bool.{true≢false, cases_eq}
 use Rattle.bound.specs.Time.{Same}
@@ -18,7 +18,7 @@ nth_out [] n e = omega arith
 nth_out (y ∷ l) zero e = let z : ◌≡◌ {A = ℕ} 0 1 = cc in absurd (omega arith)
 nth_out (y ∷ l) (suc n) e = let h = nth_out l n e in omega arith
 
-pub all_from_nth : {X : Type 0} (P : X → Type 0) (l : List X) → ((n : ℕ) (x : X) → slice_get l n ≡ Some x → P x) → All P l
+pub all_from_nth : {X : Type 0} (P : X → Type 0) (l : List X) → ((n : ℕ) (x : X) → slice_get l n ≡ Some x → P x) → AllByRecursion P l
 all_from_nth P [] h = tt
 all_from_nth P (x ∷ l) h = (h 0 x refl, all_from_nth P l (λ n y e. h (suc n) y e))
 
@@ -53,12 +53,12 @@ module _ {X : Type 0} (P : X → Type 0) (l : List X) where
   }
 
   -- all are settled exactly when all hold and there were calls enough
-  pub settled : (count a : ℕ) (failing : Bool) → Progress P l count failing a → Same ((failing ≡ false) × (slice_get l count ≡ None)) (All P l × (length l ≤ a))
+  pub settled : (count a : ℕ) (failing : Bool) → Progress P l count failing a → Same ((failing ≡ false) × (slice_get l count ≡ None)) (AllByRecursion P l × (length l ≤ a))
   settled count a failing g = (
     λ h. let here = g.going h.0 in let past = nth_out l count h.1 in (all_from_nth P l (λ n x e. let inside = nth_in l n x e in g.below n x (omega arith) e), omega arith),
     λ h. both failing g h.0 h.1,
   ) where
-    both : (f : Bool) → Progress P l count f a → All P l → length l ≤ a → (f ≡ false) × (slice_get l count ≡ None)
+    both : (f : Bool) → Progress P l count f a → AllByRecursion P l → length l ≤ a → (f ≡ false) × (slice_get l count ≡ None)
     both false p all enough = let here = p.going refl in (refl, slice_get_past l count (omega arith))
     both true p all enough = let s = p.stopped refl in absurd (s.2 (all_nth P l count s.0 all s.1))
 

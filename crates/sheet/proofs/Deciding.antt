@@ -1,6 +1,6 @@
 -- From the answers of the checks to what settle answers. Assumes nothing.
 use Rattle.std.proofs.Common.{◌≡◌, ℕ, zero, suc, ◌<◌, Bool, true, false, leb, List, [], ◌∷◌, length, Some, None, Decides, Option, sym, refl, ap, ◌∙◌, subst, ⊎_elim, arith}
-use Rattle.std.specs.List.{slice_get, AllByRecursion as All}
+use Rattle.std.specs.List.{slice_get, AllByRecursion}
 use Rattle.std.proofs.lemmas.Bool.{true≢false, le-leb}
 use Rattle.format.specs.Syntax.{Zone, Model, Guarded, Command as CommandOf}
 use Rattle.model.specs.declared.files.Files.{Files}

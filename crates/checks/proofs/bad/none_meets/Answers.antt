@@ -1,5 +1,5 @@
 use Rattle.std.proofs.Common.{◌+◌, sym, refl, ◌∙◌, subst, arith}
-use Rattle.std.specs.List.{AllByRecursion as All}
+use Rattle.std.specs.List.{AllByRecursion}
 use Rattle.model.specs.Views.{guarded_in, zone_in}
 use Rattle.model.specs.Files.{model_in}
 use Rattle.checks.specs.Passed.{head_in}
@@ -23,7 +23,7 @@ returns-in-Inconsistent g c =
     let system = bad_system b.admits m z r c.requires.zone_fits c.requires.bad_fits holds in
     let first = poured_as b.admits b.allows b.size b.unbounded _ same _ z.atoms c.begin-table.result c.pour.new.table c.same_frame.ensures c.atoms.ensures c.pour.ensures in
     let second = poured_as b.admits b.allows b.size b.unbounded _ same _ r.atoms c.pour.new.table c.pour-2.new.table c.same_frame.ensures c.atoms-2.ensures c.pour-2.ensures in
-    let both = adds_both b.admits b.allows b.size b.unbounded (λ k ν. All (Placed same k ν) z.atoms) (λ k ν. All (Placed same k ν) r.atoms) _ _ _ first second in
+    let both = adds_both b.admits b.allows b.size b.unbounded (λ k ν. AllByRecursion (Placed same k ν) z.atoms) (λ k ν. AllByRecursion (Placed same k ν) r.atoms) _ _ _ first second in
     let closes = subst (λ (a : Consistency). Closes b.admits b.allows b.size b.unbounded a c.pour-2.new.table c.close-answer.result.1) c.in-Inconsistent.is c.close-answer.ensures in
     let unsolved = unsolvable b.admits b.allows b.size b.unbounded _ _ c.begin-table.result c.pour-2.new.table _ c.begin-table.ensures both closes in
     (λ _. system.1 (λ k ν ok s. unsolved k ν ok (s.zone, s.bad)), λ _. refl)
@@ -38,7 +38,7 @@ returns-in-Consistent g c =
     let system = bad_system b.admits m z r c.requires.zone_fits c.requires.bad_fits holds in
     let first = poured_as b.admits b.allows b.size b.unbounded _ same _ z.atoms c.begin-table.result c.pour.new.table c.same_frame.ensures c.atoms.ensures c.pour.ensures in
     let second = poured_as b.admits b.allows b.size b.unbounded _ same _ r.atoms c.pour.new.table c.pour-2.new.table c.same_frame.ensures c.atoms-2.ensures c.pour-2.ensures in
-    let both = adds_both b.admits b.allows b.size b.unbounded (λ k ν. All (Placed same k ν) z.atoms) (λ k ν. All (Placed same k ν) r.atoms) _ _ _ first second in
+    let both = adds_both b.admits b.allows b.size b.unbounded (λ k ν. AllByRecursion (Placed same k ν) z.atoms) (λ k ν. AllByRecursion (Placed same k ν) r.atoms) _ _ _ first second in
     let closes = subst (λ (a : Consistency). Closes b.admits b.allows b.size b.unbounded a c.pour-2.new.table c.close-answer.result.1) c.in-Consistent.is c.close-answer.ensures in
     let some = solvable b.admits b.allows b.size b.unbounded _ _ c.begin-table.result c.pour-2.new.table _ c.begin-table.ensures both closes in
     (λ e. absurd (true≢false (sym e)), λ check. absurd (some (λ k ν ok p. system.0 check k ν ok (record { zone = p.0; bad = p.1 }))))

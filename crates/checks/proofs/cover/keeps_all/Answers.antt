@@ -1,5 +1,5 @@
 use Rattle.std.proofs.Common.{List, ℤ, Decides, sym, refl, ◌∙◌, subst, w32, SFits, rules}
-use Rattle.std.specs.List.{AllByRecursion as All}
+use Rattle.std.specs.List.{AllByRecursion}
 use Rattle.std.proofs.lemmas.Int.{to_z-of_z}
 use Rattle.std.proofs.lemmas.Bool.{true≢false}
 use Rattle.dbm.specs.Calls.{Keeps}
@@ -20,7 +20,7 @@ loop-atom-preserved g c =
     let fits : SFits w32 p.d = search rules in
     let told = decides_placed b.admits b.allows b.size b.unbounded t f c.include.result (atom_is c.in-Some.atom) (atom_is p) c.place-placed.ensures (subst (λ (z : ℤ). Decides c.include.result (Keeps b.admits b.allows b.size b.unbounded t p.i p.j z p.strict)) (to_z-of_z w32 p.d fits) c.include.ensures) in (
       left_more (KeepsPlaced b.admits b.allows b.size b.unbounded t f) _ _ _ _ first.splits (told.0 c.if-not-include.false) c.loop-atom.invariant.0,
-      (subst (λ (l : List Atom). All (Placeable f t.n) l) first.splits c.loop-atom.invariant.1).1,
+      (subst (λ (l : List Atom). AllByRecursion (Placeable f t.n) l) first.splits c.loop-atom.invariant.1).1,
     )
 
 pub returns-then-not-include : goal.returns-then-not-include

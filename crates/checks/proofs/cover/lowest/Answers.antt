@@ -1,5 +1,5 @@
 use Rattle.std.proofs.Common.{◌+◌, List, sym, ◌∙◌, subst, arith}
-use Rattle.std.specs.List.{AllByRecursion as All}
+use Rattle.std.specs.List.{AllByRecursion}
 use Rattle.format.specs.Syntax.{Zone}
 use Rattle.model.specs.Views.{zone_in}
 use Rattle.model.specs.Files.{zones_left}
@@ -16,7 +16,7 @@ loop-n-preserved g c =
       | else-not-mark-via-then-not-mark+else-held-by w ↦ tried_other P c.args.struck.now (zones_left c.args.zones) c.loop-n.n _ c.loop-n.invariant.0 _ (zone_in c.in_ok-zone.zone) first.splits c.loop-n.invariant.1 (λ p. true≢false (sym (w.held_by.ensures.1 p) ∙ w.if-held_by.false))
       | else-not-mark-via-else-not-mark w ↦ tried_struck P c.args.struck.now (zones_left c.args.zones) c.loop-n.n _ c.loop-n.invariant.0 _ (zone_in c.in_ok-zone.zone) first.splits c.loop-n.invariant.1 w.if-not-mark.false
     ] in
-    (left_next P c.args.struck.now (zones_left c.args.zones) c.loop-n.n _ c.loop-n.invariant.0 _ (zone_in c.in_ok-zone.zone) first.splits, tried, (subst (λ (l : List Zone). All (g.R.Reached.ready c.args.reached.now) l) first.splits c.loop-n.invariant.2).1)
+    (left_next P c.args.struck.now (zones_left c.args.zones) c.loop-n.n _ c.loop-n.invariant.0 _ (zone_in c.in_ok-zone.zone) first.splits, tried, (subst (λ (l : List Zone). AllByRecursion (g.R.Reached.ready c.args.reached.now) l) first.splits c.loop-n.invariant.2).1)
 
 pub returns-in_err-zone : goal.returns-in_err-zone
 returns-in_err-zone g c = rw c.from_residual.ensures (none_left (g.R.Reached.holds c.args.reached.now) c.args.struck.now (zones_left c.args.zones) c.loop-n.n _ c.loop-n.invariant.0 c.in_err-zone.ensures c.loop-n.invariant.1)

@@ -1,8 +1,10 @@
-// The printed line of a program that settles the checks of a list.
-ghost use Rattle.std.specs.Prelude.{Some};
-ghost use Rattle.report.specs.Ended.{check_printed, ended};
+//! The printed line of a program that settles the checks of a list.
+#![tactic(auto)]
 
-use crate::Report;
+ghost use Rattle.std.specs.Prelude.{Some};
+ghost use Rattle.ended.specs.Ended.{check_printed, ended};
+
+use report::Report;
 use format::Fault;
 use sheet::Check;
 use std::fmt;

@@ -4,8 +4,8 @@ use Rattle.format.specs.Faults.{told}
 use Rattle.sheet.specs.declared.check.Check.{Check}
 use Rattle.sheet.specs.declared.check.Check.TheVariants.{Start, Bad, Time, Command}
 use Rattle.report.specs.Line.{printed}
-use Rattle.report.specs.declared.ended.Ended.{Ended}
-use Rattle.report.specs.declared.ended.Ended.TheVariants.{Accepted, Failing, Unfinished, Refused}
+use Rattle.ended.specs.declared.Ended.{Ended}
+use Rattle.ended.specs.declared.Ended.TheVariants.{Accepted, Failing, Unfinished, Refused}
 
 -- start, or the zone and bad or command with its number, or time
 abbrev pub check_printed : Check → List ℕ
