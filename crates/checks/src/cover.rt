@@ -103,9 +103,9 @@ impl<'t, 'a, B: Bound> Reached for States<'t, 'a, B> {
 
 // The lowest numbered zone that is not struck and holds all that is reached.
 pub(crate) fn lowest<R: Reached>(reached: &R, zones: Zones, struck: &[bool; 512]) -> Option<usize>
-    requires ready { AllByRecursion (ready reached.now) (zones_left zones) }
+    requires ready { AllByRecursion (R.ready reached.now) (zones_left zones) }
     requires few { length (zones_left zones) ≤ 512 }
-    ensures { Names (holds reached.now) struck.now (zones_left zones.entry) result }
+    ensures { Names (R.holds reached.now) struck.now (zones_left zones.entry) result }
 {
     let mut rest = zones;
     for (n, mark) in struck.iter().enumerate() {

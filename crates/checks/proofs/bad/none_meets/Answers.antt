@@ -21,8 +21,8 @@ returns-in-Inconsistent g c =
     let m = model_in c.args.files.now in
     let holds = condition_as _ _ _ _ c.condition.ensures c.booleans.ensures (c.holds.ensures.0 c.if-not-holds.false) in
     let system = bad_system b.admits m z r c.requires.zone_fits c.requires.bad_fits holds in
-    let first = poured_as b.admits b.allows b.size b.unbounded _ same _ z.atoms c.begin-table.result c.pour.new.table c.same_frame.ensures c.atoms.ensures c.pour.ensures in
-    let second = poured_as b.admits b.allows b.size b.unbounded _ same _ r.atoms c.pour.new.table c.pour-2.new.table c.same_frame.ensures c.atoms-2.ensures c.pour-2.ensures in
+    let first = poured_as b.admits b.allows b.size b.unbounded _ same _ z.atoms c.begin-table.result c.pour.new.table c.same-frame.ensures c.atoms.ensures c.pour.ensures in
+    let second = poured_as b.admits b.allows b.size b.unbounded _ same _ r.atoms c.pour.new.table c.pour-2.new.table c.same-frame.ensures c.atoms-2.ensures c.pour-2.ensures in
     let both = adds_both b.admits b.allows b.size b.unbounded (λ k ν. AllByRecursion (Placed same k ν) z.atoms) (λ k ν. AllByRecursion (Placed same k ν) r.atoms) _ _ _ first second in
     let closes = subst (λ (a : Consistency). Closes b.admits b.allows b.size b.unbounded a c.pour-2.new.table c.close-answer.result.1) c.in-Inconsistent.is c.close-answer.ensures in
     let unsolved = unsolvable b.admits b.allows b.size b.unbounded _ _ c.begin-table.result c.pour-2.new.table _ c.begin-table.ensures both closes in
@@ -36,8 +36,8 @@ returns-in-Consistent g c =
     let m = model_in c.args.files.now in
     let holds = condition_as _ _ _ _ c.condition.ensures c.booleans.ensures (c.holds.ensures.0 c.if-not-holds.false) in
     let system = bad_system b.admits m z r c.requires.zone_fits c.requires.bad_fits holds in
-    let first = poured_as b.admits b.allows b.size b.unbounded _ same _ z.atoms c.begin-table.result c.pour.new.table c.same_frame.ensures c.atoms.ensures c.pour.ensures in
-    let second = poured_as b.admits b.allows b.size b.unbounded _ same _ r.atoms c.pour.new.table c.pour-2.new.table c.same_frame.ensures c.atoms-2.ensures c.pour-2.ensures in
+    let first = poured_as b.admits b.allows b.size b.unbounded _ same _ z.atoms c.begin-table.result c.pour.new.table c.same-frame.ensures c.atoms.ensures c.pour.ensures in
+    let second = poured_as b.admits b.allows b.size b.unbounded _ same _ r.atoms c.pour.new.table c.pour-2.new.table c.same-frame.ensures c.atoms-2.ensures c.pour-2.ensures in
     let both = adds_both b.admits b.allows b.size b.unbounded (λ k ν. AllByRecursion (Placed same k ν) z.atoms) (λ k ν. AllByRecursion (Placed same k ν) r.atoms) _ _ _ first second in
     let closes = subst (λ (a : Consistency). Closes b.admits b.allows b.size b.unbounded a c.pour-2.new.table c.close-answer.result.1) c.in-Consistent.is c.close-answer.ensures in
     let some = solvable b.admits b.allows b.size b.unbounded _ _ c.begin-table.result c.pour-2.new.table _ c.begin-table.ensures both closes in
@@ -49,7 +49,7 @@ pour-requires g c =
     let e = c.begin-table.ensures in
     record {
       is_open = e.is_open;
-      fit = fit_atoms h c.requires.passed.model.few_clocks (c.clocks.result + 1) _ _ same (roomy_same h.clocks _ (omega (arith, c.clocks.ensures))) c.same_frame.ensures e.rows_are _ _ c.atoms.ensures c.requires.zone_fits.atoms.each;
+      fit = fit_atoms h c.requires.passed.model.few_clocks (c.clocks.result + 1) _ _ same (roomy_same h.clocks _ (omega (arith, c.clocks.ensures))) c.same-frame.ensures e.rows_are _ _ c.atoms.ensures c.requires.zone_fits.atoms.each;
     }
 
 pub pour-requires-2 : goal.pour-requires-2
@@ -58,5 +58,5 @@ pour-requires-2 g c =
     let e = c.begin-table.ensures in
     record {
       is_open = c.pour.ensures.is_open;
-      fit = fit_atoms h c.requires.passed.model.few_clocks (c.clocks.result + 1) _ _ same (roomy_same h.clocks _ (omega (arith, c.clocks.ensures))) c.same_frame.ensures (c.pour.ensures.same_rows ∙ e.rows_are) _ _ c.atoms-2.ensures c.requires.bad_fits.atoms.each;
+      fit = fit_atoms h c.requires.passed.model.few_clocks (c.clocks.result + 1) _ _ same (roomy_same h.clocks _ (omega (arith, c.clocks.ensures))) c.same-frame.ensures (c.pour.ensures.same_rows ∙ e.rows_are) _ _ c.atoms-2.ensures c.requires.bad_fits.atoms.each;
     }

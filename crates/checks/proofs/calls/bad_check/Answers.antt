@@ -24,6 +24,6 @@ none_meets-requires g c =
     record {
       passed = asked.ranged;
       zone_fits = all_nth _ _ c.args.zone (zone_in c.in_ok-part.part) asked.ranged.zones.zones asked.listed;
-      bad-fits = all_nth _ _ c.args.bad (guarded_in c.in-Some.record) asked.ranged.model.bads c.in-Some.ensures;
+      bad_fits = all_nth _ _ c.args.bad (guarded_in c.in-Some.record) asked.ranged.model.bads c.in-Some.ensures;
       enough = asked.enough;
     }

@@ -7,7 +7,7 @@ use Rattle.checks.proofs.Shapes.{writing_none, writing_more, writing_all, resets
 use Rattle.checks.proofs.frame.Frame.after.Goals as goal
 
 pub loop-reset-init : goal.loop-reset-init
-loop-reset-init c = writing_none _ c.same_frame.result c.same_frame.ensures
+loop-reset-init c = writing_none _ c.same-frame.result c.same-frame.ensures
 
 pub loop-reset-preserved : goal.loop-reset-preserved
 loop-reset-preserved c =

@@ -24,6 +24,6 @@ returns c =
     let bs = c.args.self.bytes.now in
     let some = standing 1 (words bs) _ _ c.in_ok-number.ensures in
     record {
-      splits = one_atom (words bs) _ _ c.in_ok-word.ensures c.in_ok-number.ensures ∙ (λ i. sym c.atom_of_words.ensures i ∷ atoms_of (sym (ap words (take_rest bs 8) ∙ words_drop 2 bs) i));
+      splits = one_atom (words bs) _ _ c.in_ok-word.ensures c.in_ok-number.ensures ∙ (λ i. sym c.atom_of.ensures i ∷ atoms_of (sym (ap words (take_rest bs 8) ∙ words_drop 2 bs) i));
       shorter = omega (arith, some, length_words bs, ap length (take_rest bs 8), length-drop 8 bs);
     }

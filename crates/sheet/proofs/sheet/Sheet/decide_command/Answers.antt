@@ -14,7 +14,7 @@ returns g c =
     let l = zones_on s in
     let z = nth_there l c.args.zone c.requires.zone_there in
     let k = nth_there m.commands c.args.command c.requires.command_there in
-    subst (λ (r : Settled). Decided g.B.Bound.admits m l (struck_on s) (Command c.args.zone c.args.command) r) (sym c.settled_by_zone.ensures) (decided_command g.B.Bound.admits m l (struck_on s) c.args.zone c.args.command c.in-Ok.cover z.0 k.0 z.1 k.1 c.in-Ok.ensures.1)
+    subst (λ (r : Settled). Decided g.B.Bound.admits m l (struck_on s) (Command c.args.zone c.args.command) r) (sym c.by_zone.ensures) (decided_command g.B.Bound.admits m l (struck_on s) c.args.zone c.args.command c.in-Ok.cover z.0 k.0 z.1 k.1 c.in-Ok.ensures.1)
 
 pub unreachable-requires : goal.unreachable-requires
 unreachable-requires g c =

@@ -12,7 +12,7 @@ returns g c =
     let s = c.args.self.now in
     let m = model_on s in
     let l = zones_on s in
-    subst (λ (r : Settled). Decided g.B.Bound.admits m l (struck_on s) Start r) (sym c.settled_by_zone.ensures) (decided_start g.B.Bound.admits m l (struck_on s) c.in-Ok.zone c.in-Ok.ensures.1)
+    subst (λ (r : Settled). Decided g.B.Bound.admits m l (struck_on s) Start r) (sym c.by_zone.ensures) (decided_start g.B.Bound.admits m l (struck_on s) c.in-Ok.zone c.in-Ok.ensures.1)
 
 pub unreachable-requires : goal.unreachable-requires
 unreachable-requires g c =

@@ -13,7 +13,7 @@ returns g c =
     let m = model_on s in
     let l = zones_on s in
     let z = nth_there l c.args.zone c.requires.zone_there in
-    subst (λ (r : Settled). Decided g.B.Bound.admits m l (struck_on s) (Time c.args.zone) r) (sym c.settled_by_zone.ensures) (decided_time g.B.Bound.admits m l (struck_on s) c.args.zone c.in-Ok.cover z.0 z.1 c.in-Ok.ensures.1)
+    subst (λ (r : Settled). Decided g.B.Bound.admits m l (struck_on s) (Time c.args.zone) r) (sym c.by_zone.ensures) (decided_time g.B.Bound.admits m l (struck_on s) c.args.zone c.in-Ok.cover z.0 z.1 c.in-Ok.ensures.1)
 
 pub unreachable-requires : goal.unreachable-requires
 unreachable-requires g c =
