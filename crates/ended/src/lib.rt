@@ -4,8 +4,8 @@
 ghost use Rattle.std.specs.Prelude.{Some};
 ghost use Rattle.ended.specs.Ended.{check_printed, ended};
 
-use report::Report;
 use format::Fault;
+use report::Report;
 use sheet::Check;
 use std::fmt;
 

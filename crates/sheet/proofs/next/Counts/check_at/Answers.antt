@@ -2,7 +2,7 @@ use Rattle.std.proofs.Common.{◌≡◌, ℕ, ◌+◌, ◌-◌, sym, ap, ◌∙�
 use Rattle.std.specs.List.{slice_get}
 use Rattle.sheet.specs.Order.{checks_from}
 use Rattle.sheet.proofs.Nexts.{passed_over, among, beyond, none_beyond, after_start}
-use Rattle.sheet.proofs.next.Counts.check_at.Goals.{then-not-is-struck+else-left-each, else-not-is-struck}
+use Rattle.sheet.proofs.next.Counts.check_at.Goals.{then-not-is_struck+else-left-each, else-not-is_struck}
 use Rattle.sheet.proofs.next.Counts.check_at.Goals as goal
 
 pub loop-zone-init : goal.loop-zone-init
@@ -15,8 +15,8 @@ loop-zone-preserved c =
     let n = c.loop-zone.zone in
     let to = λ (left : ℕ). slice_get (checks_from k.bads k.commands struck (n + 1) (k.zones - (n + 1))) left in
     elim c.if-not-is_struck.branch [
-      | then-not-is-struck+else-left-each w ↦ c.loop-zone.invariant ∙ beyond k.bads k.commands struck n k.zones c.loop-zone-test.true c.loop-zone.left (sym c.is_struck.ensures ∙ w.if-not-is_struck.true) w.if-left-each.false ∙ ap to (sym w.left-is)
-      | else-not-is-struck w ↦ c.loop-zone.invariant ∙ passed_over k.bads k.commands struck n k.zones c.loop-zone-test.true c.loop-zone.left (sym c.is_struck.ensures ∙ w.if-not-is_struck.false) ∙ ap to (sym w.left-is)
+      | then-not-is_struck+else-left-each w ↦ c.loop-zone.invariant ∙ beyond k.bads k.commands struck n k.zones c.loop-zone-test.true c.loop-zone.left (sym c.is_struck.ensures ∙ w.if-not-is_struck.true) w.if-left-each.false ∙ ap to (sym w.left-is)
+      | else-not-is_struck w ↦ c.loop-zone.invariant ∙ passed_over k.bads k.commands struck n k.zones c.loop-zone-test.true c.loop-zone.left (sym c.is_struck.ensures ∙ w.if-not-is_struck.false) ∙ ap to (sym w.left-is)
     ]
 
 pub returns-then-left-each : goal.returns-then-left-each
