@@ -1,5 +1,5 @@
 -- All that passed files name is in its range. Assumes nothing.
-use Rattle.std.proofs.Common.{◌≡◌, true, false, sym, refl}
+use Rattle.std.proofs.Common.{◌≡◌, true, sym, refl}
 use Rattle.std.proofs.lemmas.Bool.{true≢false}
 use Rattle.format.specs.LookOver.{look_over_answer, Outcome}
 use Rattle.format.specs.LookOver.Outcome.{pass, fault}

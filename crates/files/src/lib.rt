@@ -30,13 +30,24 @@ fn named(rt: &HostRuntime, argument: Option<String>, name: &str) -> Vec<u8> {
     }
 }
 
+// The model and the zone list that two arguments name, or else MODEL and ZONES.
+fn both_named(
+    rt: &HostRuntime,
+    model: Option<String>,
+    zones: Option<String>,
+) -> (Vec<u8>, Vec<u8>) {
+    let model = named(rt, model, "MODEL");
+    let zones = named(rt, zones, "ZONES");
+    (model, zones)
+}
+
 // The model and the zone list that the program's arguments name; without arguments MODEL and ZONES.
 pub fn model_and_zones(rt: &HostRuntime) -> io::Result<(Vec<u8>, Vec<u8>)> {
     let mut args = env::args(rt)?;
     let _program = args.next();
-    let model = named(rt, args.next(), "MODEL");
-    let zones = named(rt, args.next(), "ZONES");
-    Ok((model, zones))
+    let model = args.next();
+    let zones = args.next();
+    Ok(both_named(rt, model, zones))
 }
 
 #[cfg(test)]
@@ -66,7 +77,8 @@ mod tests {
     fn without_arguments_model_and_zones(rt: HostRuntime) -> Result<(), Fail> {
         fs::write(&rt, "MODEL", &[1u8])?;
         fs::write(&rt, "ZONES", &[2u8, 3])?;
-        let (model, zones) = model_and_zones(&rt)?;
+        // A test is always given an argument, its own name, so the arguments that a program may lack are handed over here.
+        let (model, zones) = both_named(&rt, None, None);
         fs::remove_file(&rt, "MODEL")?;
         fs::remove_file(&rt, "ZONES")?;
         assert_eq!(rt; model.len(), 1);

@@ -1,5 +1,5 @@
 -- What is known of a file that passed: the ranges of all that it names. Assumes nothing.
-use Rattle.std.specs.Prelude.{◌≡◌, ℕ, ◌+◌, ◌*◌, ◌^◌, ◌<◌, ◌≤◌, true, List, [], length, ℤ, pos, ◌≤ℤ◌, bit_and}
+use Rattle.std.specs.Prelude.{◌≡◌, ℕ, ◌+◌, ◌*◌, ◌^◌, ◌<◌, ◌≤◌, true, List, [], length, pos, ◌≤ℤ◌, bit_and}
 use Rattle.std.specs.List.{AllByRecursion}
 use Rattle.format.specs.Words.{words}
 use Rattle.format.specs.Places.{Head, least_number, greatest_number}

@@ -1,14 +1,13 @@
 -- From the answers of the checks to what settle answers. Assumes nothing.
-use Rattle.std.proofs.Common.{◌≡◌, ℕ, zero, suc, ◌<◌, Bool, true, false, leb, List, [], ◌∷◌, length, Some, None, Decides, Option, sym, refl, ap, ◌∙◌, subst, ⊎_elim, arith}
-use Rattle.std.specs.List.{slice_get, AllByRecursion}
-use Rattle.std.proofs.lemmas.Bool.{true≢false, le-leb}
+use Rattle.std.proofs.Common.{◌≡◌, ℕ, zero, suc, ◌<◌, Bool, true, false, leb, List, [], ◌∷◌, length, Some, None, Decides, Option, sym, refl, arith}
+use Rattle.std.specs.List.{slice_get}
+use Rattle.std.proofs.lemmas.Bool.{true≢false}
 use Rattle.format.specs.Syntax.{Zone, Model, Guarded, Command as CommandOf}
 use Rattle.model.specs.declared.files.Files.{Files}
-use Rattle.model.specs.Files.{model_in, zones_in}
-use Rattle.checks.specs.Calls.{pass_over, refused_start, refused_zone, refused_record, StartAnswer, BadAnswer, TimeAnswer, CommandAnswer}
-use Rattle.checks.specs.Meanings.{Unstruck, Names, HoldsStart, BadCheck, CoversTime, CoversCommand}
+use Rattle.model.specs.Files.{zones_in}
+use Rattle.checks.specs.Calls.{pass_over, refused_start, refused_zone, refused_record}
+use Rattle.checks.specs.Meanings.{Names, HoldsStart, BadCheck, CoversTime, CoversCommand}
 use Rattle.checks.proofs.Lowest.{all_nth}
-use Rattle.sheet.specs.Meanings.{SomeUnstruck, Holds}
 use Rattle.sheet.specs.Order.{order}
 use Rattle.sheet.specs.Settling.{Decided, settled_by_zone, by_answer}
 use Rattle.sheet.specs.declared.check.Check.{Check}

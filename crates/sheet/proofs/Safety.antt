@@ -1,10 +1,9 @@
 -- Where all checks hold, no run ever stands in a bad state. Assumes nothing.
-use Rattle.std.proofs.Common.{◌≡◌, ℕ, Bool, List}
+use Rattle.std.proofs.Common.{ℕ, Bool, List}
 use Rattle.format.specs.Syntax.{Zone, Model}
 use Rattle.model.specs.States.{State, LiesIn}
 use Rattle.model.specs.Steps.{Stands, Bad}
 use Rattle.model.specs.Steps.Stands.{at_start, fired, delayed}
-use Rattle.checks.specs.Meanings.{Unstruck}
 use Rattle.sheet.specs.Meanings.{SomeUnstruck, AllHold}
 
 module _ (admits : ℕ → Type 0) (m : Model) (l : List Zone) (struck : List Bool) (all : AllHold admits m l struck) (K : ℕ) (ok : admits K) where

@@ -1,5 +1,5 @@
 -- What settle answers, and what the sheet then holds. Assumes nothing.
-use Rattle.std.specs.Prelude.{◌≡◌, ℕ, ◌+◌, ◌≤◌, Bool, true, false, cond, List, Some, None, Option, nat_le}
+use Rattle.std.specs.Prelude.{◌≡◌, ℕ, ◌+◌, ◌≤◌, Bool, true, false, List, Some, None, Option, nat_le}
 use Rattle.std.specs.List.{slice_get}
 use Rattle.format.specs.Syntax.{Zone, Model, Command as CommandOf}
 use Rattle.checks.specs.Calls.{pass_over}
@@ -12,7 +12,7 @@ use Rattle.sheet.specs.declared.sheet.Sheet.{Sheet}
 use Rattle.sheet.specs.declared.answers.Settled.{Settled}
 use Rattle.sheet.specs.declared.answers.Settled.TheVariants.{Holds as Held, Fails}
 use Rattle.sheet.specs.declared.answers.Refused.{Refused}
-use Rattle.sheet.specs.declared.answers.Refused.TheVariants.{Void, ShortArea, NothingLeft, NoSuchZone, AlreadySo}
+use Rattle.sheet.specs.declared.answers.Refused.TheVariants.{Void, ShortArea, NothingLeft}
 
 -- a no to a question refuses by its number
 abbrev pub unless : Bool → Refused → Option Refused → Option Refused

@@ -8,7 +8,6 @@ use Rattle.sheet.specs.Meanings.{Holds}
 use Rattle.sheet.specs.Order.{order}
 use Rattle.sheet.specs.Sheets.{zones_on, struck_on}
 use Rattle.sheet.specs.Series.{History, after_call}
-use Rattle.sheet.specs.declared.check.Check.{Check}
 use Rattle.sheet.specs.declared.sheet.Sheet.{Sheet}
 use Rattle.sheet.specs.declared.call.Call.{Call}
 

@@ -1,4 +1,3 @@
-use Rattle.dbm.specs.Table.{entry}
 use Rattle.dbm.proofs.Rows.{Turning}
 use Rattle.dbm.proofs.close.turn.Given as goal
 

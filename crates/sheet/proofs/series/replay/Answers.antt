@@ -1,4 +1,4 @@
-use Rattle.std.proofs.Common.{◌≡◌, ℕ, ◌+◌, length, sym, ◌∙◌, subst}
+use Rattle.std.proofs.Common.{ℕ, ◌+◌, length, sym, subst}
 use Rattle.std.proofs.lemmas.List.{drop_more}
 use Rattle.sheet.proofs.Replaying.{Replayed, replayed_none, replayed_more, replayed_all, marks_all, marks_of_files, of_the_files}
 use Rattle.sheet.proofs.series.replay.Goals as goal

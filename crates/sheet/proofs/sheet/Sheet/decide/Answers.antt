@@ -1,4 +1,4 @@
-use Rattle.std.proofs.Common.{◌≡◌, length, Some, ap, ◌∙◌}
+use Rattle.std.proofs.Common.{length, Some, ap, ◌∙◌}
 use Rattle.sheet.specs.declared.check.Check.TheVariants.{Bad, Time, Command}
 use Rattle.sheet.specs.Sheets.{model_on, zones_on, struck_on}
 use Rattle.sheet.proofs.Deciding.{in_range}

@@ -1,10 +1,9 @@
-use Rattle.std.proofs.Common.{◌≡◌, sym, subst}
-use Rattle.std.proofs.lemmas.Bool.{le-leb}
+use Rattle.std.proofs.Common.{sym, subst}
 use Rattle.sheet.specs.declared.check.Check.TheVariants.{Start}
 use Rattle.sheet.specs.declared.answers.Settled.{Settled}
 use Rattle.sheet.specs.Sheets.{model_on, zones_on, struck_on}
 use Rattle.sheet.specs.Settling.{Decided}
-use Rattle.sheet.proofs.Deciding.{nth_there, some_none, decided_start, start_made}
+use Rattle.sheet.proofs.Deciding.{some_none, decided_start, start_made}
 use Rattle.sheet.proofs.sheet.Sheet.decide_start.Goals as goal
 
 pub returns : goal.returns

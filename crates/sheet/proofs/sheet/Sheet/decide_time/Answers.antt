@@ -1,4 +1,4 @@
-use Rattle.std.proofs.Common.{◌≡◌, sym, subst}
+use Rattle.std.proofs.Common.{sym, subst}
 use Rattle.std.proofs.lemmas.Bool.{le-leb}
 use Rattle.sheet.specs.declared.check.Check.TheVariants.{Time}
 use Rattle.sheet.specs.declared.answers.Settled.{Settled}
