@@ -107,7 +107,7 @@ pub fn strict_five_less_five() -> Dense
     ensures zero { (k : ℕ) → 1 ≤ k → DenseAllows result k (pos 0) → ⊥ }
     ensures below { (k : ℕ) (v : ℤ) → 1 ≤ k → v <ℤ pos 0 → DenseAllows result k v }
 {
-    let strict = <Dense as Bound>::make(5, true);
-    let weak = <Dense as Bound>::make(-5, false);
-    <Dense as Bound>::sum(strict, weak)
+    let strict = Dense::make(5, true);
+    let weak = Dense::make(-5, false);
+    Dense::sum(strict, weak)
 }

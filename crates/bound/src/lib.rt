@@ -15,115 +15,88 @@ mod tests {
 
     #[test]
     fn dense_orders(rt: HostRuntime) {
-        let three = <Dense as Bound>::make(3, false);
-        let four = <Dense as Bound>::make(4, false);
-        let below_four = <Dense as Bound>::make(4, true);
+        let three = Dense::make(3, false);
+        let four = Dense::make(4, false);
+        let below_four = Dense::make(4, true);
         assert!(rt; three.not_greater(four));
         assert!(rt; !four.not_greater(three));
         assert!(rt; three.not_greater(below_four));
         assert!(rt; below_four.not_greater(four));
         assert!(rt; !four.not_greater(below_four));
         assert!(rt; below_four.not_greater(below_four));
-        assert!(rt; four.not_greater(<Dense as Bound>::NONE));
-        assert!(rt; !<Dense as Bound>::NONE.not_greater(four));
-        assert!(rt; <Dense as Bound>::NONE.not_greater(<Dense as Bound>::NONE));
+        assert!(rt; four.not_greater(Dense::NONE));
+        assert!(rt; !Dense::NONE.not_greater(four));
+        assert!(rt; Dense::NONE.not_greater(Dense::NONE));
     }
 
     #[test]
     fn ticks_orders(rt: HostRuntime) {
-        let three = <Ticks as Bound>::make(3, false);
-        let four = <Ticks as Bound>::make(4, false);
-        let below_four = <Ticks as Bound>::make(4, true);
+        let three = Ticks::make(3, false);
+        let four = Ticks::make(4, false);
+        let below_four = Ticks::make(4, true);
         assert!(rt; three.not_greater(four));
         assert!(rt; !four.not_greater(three));
         assert!(rt; below_four.not_greater(three));
         assert!(rt; below_four.not_greater(four));
         assert!(rt; !four.not_greater(below_four));
-        assert!(rt; four.not_greater(<Ticks as Bound>::NONE));
-        assert!(rt; !<Ticks as Bound>::NONE.not_greater(four));
-        assert!(rt; <Ticks as Bound>::NONE.not_greater(<Ticks as Bound>::NONE));
+        assert!(rt; four.not_greater(Ticks::NONE));
+        assert!(rt; !Ticks::NONE.not_greater(four));
+        assert!(rt; Ticks::NONE.not_greater(Ticks::NONE));
     }
 
     #[test]
     fn dense_sums(rt: HostRuntime) {
-        let two = <Dense as Bound>::make(2, false);
-        let three = <Dense as Bound>::make(3, false);
-        assert_eq!(rt; two.sum(three), <Dense as Bound>::make(5, false));
-        assert_eq!(rt; strict_five_less_five(), <Dense as Bound>::make(0, true));
-        assert_eq!(rt;
-            <Dense as Bound>::no_bound().sum(two),
-            <Dense as Bound>::NONE
-        );
-        assert_eq!(rt;
-            two.sum(<Dense as Bound>::no_bound()),
-            <Dense as Bound>::NONE
-        );
+        let two = Dense::make(2, false);
+        let three = Dense::make(3, false);
+        assert_eq!(rt; two.sum(three), Dense::make(5, false));
+        assert_eq!(rt; strict_five_less_five(), Dense::make(0, true));
+        assert_eq!(rt; Dense::no_bound().sum(two), Dense::NONE);
+        assert_eq!(rt; two.sum(Dense::no_bound()), Dense::NONE);
     }
 
     #[test]
     fn ticks_sums(rt: HostRuntime) {
-        let two = <Ticks as Bound>::make(2, false);
-        let three = <Ticks as Bound>::make(3, false);
-        let below_five = <Ticks as Bound>::make(5, true);
-        let less_five = <Ticks as Bound>::make(-5, false);
-        assert_eq!(rt; two.sum(three), <Ticks as Bound>::make(5, false));
-        assert_eq!(rt;
-            below_five.sum(less_five),
-            <Ticks as Bound>::make(-1, false)
-        );
-        assert_eq!(rt;
-            <Ticks as Bound>::no_bound().sum(two),
-            <Ticks as Bound>::NONE
-        );
-        assert_eq!(rt;
-            two.sum(<Ticks as Bound>::no_bound()),
-            <Ticks as Bound>::NONE
-        );
+        let two = Ticks::make(2, false);
+        let three = Ticks::make(3, false);
+        let below_five = Ticks::make(5, true);
+        let less_five = Ticks::make(-5, false);
+        assert_eq!(rt; two.sum(three), Ticks::make(5, false));
+        assert_eq!(rt; below_five.sum(less_five), Ticks::make(-1, false));
+        assert_eq!(rt; Ticks::no_bound().sum(two), Ticks::NONE);
+        assert_eq!(rt; two.sum(Ticks::no_bound()), Ticks::NONE);
     }
 
     #[test]
     fn constants(rt: HostRuntime) {
-        assert_eq!(rt; <Dense as Bound>::no_bound(), <Dense as Bound>::NONE);
-        assert_eq!(rt; <Ticks as Bound>::no_bound(), <Ticks as Bound>::NONE);
-        assert_eq!(rt; <Dense as Bound>::zero_bound(), <Dense as Bound>::ZERO);
-        assert_eq!(rt; <Ticks as Bound>::zero_bound(), <Ticks as Bound>::ZERO);
-        assert_eq!(rt; <Dense as Bound>::make(0, false), <Dense as Bound>::ZERO);
-        assert_eq!(rt; <Ticks as Bound>::make(0, false), <Ticks as Bound>::ZERO);
+        assert_eq!(rt; Dense::no_bound(), Dense::NONE);
+        assert_eq!(rt; Ticks::no_bound(), Ticks::NONE);
+        assert_eq!(rt; Dense::zero_bound(), Dense::ZERO);
+        assert_eq!(rt; Ticks::zero_bound(), Ticks::ZERO);
+        assert_eq!(rt; Dense::make(0, false), Dense::ZERO);
+        assert_eq!(rt; Ticks::make(0, false), Ticks::ZERO);
     }
 
     #[test]
     fn extremes(rt: HostRuntime) {
         assert_eq!(rt;
-            <Dense as Bound>::make(i32::MIN, false),
+            Dense::make(i32::MIN, false),
             Dense::Limit(-2_147_483_648, false)
         );
         assert_eq!(rt;
-            <Dense as Bound>::make(i32::MIN, true),
+            Dense::make(i32::MIN, true),
             Dense::Limit(-2_147_483_648, true)
         );
         assert_eq!(rt;
-            <Dense as Bound>::make(i32::MAX, false),
+            Dense::make(i32::MAX, false),
             Dense::Limit(2_147_483_647, false)
         );
         assert_eq!(rt;
-            <Dense as Bound>::make(i32::MAX, true),
+            Dense::make(i32::MAX, true),
             Dense::Limit(2_147_483_647, true)
         );
-        assert_eq!(rt;
-            <Ticks as Bound>::make(i32::MIN, false),
-            Ticks::Limit(-2_147_483_648)
-        );
-        assert_eq!(rt;
-            <Ticks as Bound>::make(i32::MIN, true),
-            Ticks::Limit(-2_147_483_649)
-        );
-        assert_eq!(rt;
-            <Ticks as Bound>::make(i32::MAX, false),
-            Ticks::Limit(2_147_483_647)
-        );
-        assert_eq!(rt;
-            <Ticks as Bound>::make(i32::MAX, true),
-            Ticks::Limit(2_147_483_646)
-        );
+        assert_eq!(rt; Ticks::make(i32::MIN, false), Ticks::Limit(-2_147_483_648));
+        assert_eq!(rt; Ticks::make(i32::MIN, true), Ticks::Limit(-2_147_483_649));
+        assert_eq!(rt; Ticks::make(i32::MAX, false), Ticks::Limit(2_147_483_647));
+        assert_eq!(rt; Ticks::make(i32::MAX, true), Ticks::Limit(2_147_483_646));
     }
 }

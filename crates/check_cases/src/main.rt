@@ -21,7 +21,7 @@ mod valve;
 mod words;
 
 use bench::Bench;
-use bound::Bound;
+use bound::{Bound, Dense, Ticks};
 use case::Group;
 use std::io;
 
@@ -43,8 +43,8 @@ fn show_most(bench: &mut Bench, rt: &HostRuntime) -> io::Result<()> {
 fn show_with<const N: usize>(rt: &HostRuntime, groups: &[Group]) -> io::Result<()>
     requires { N ≤ 600 }
 {
-    let mut dense = [<bound::Dense as bound::Bound>::NONE; N];
-    let mut ticks = [<bound::Ticks as bound::Bound>::NONE; N];
+    let mut dense = [Dense::NONE; N];
+    let mut ticks = [Ticks::NONE; N];
     let mut bench = Bench {
         rt,
         dense: &mut dense,
@@ -54,8 +54,8 @@ fn show_with<const N: usize>(rt: &HostRuntime, groups: &[Group]) -> io::Result<(
 }
 
 fn main(rt: HostRuntime) -> io::Result<()> {
-    let mut dense = [<bound::Dense as bound::Bound>::NONE; 578];
-    let mut ticks = [<bound::Ticks as bound::Bound>::NONE; 578];
+    let mut dense = [Dense::NONE; 578];
+    let mut ticks = [Ticks::NONE; 578];
     let mut bench = Bench {
         rt: &rt,
         dense: &mut dense,

@@ -1,14 +1,14 @@
 //! Settles the checks of a zone list in dense time, and prints one line.
 #![tactic(auto)]
 
-use bound::Bound;
+use bound::{Bound, Dense};
 use files::model_and_zones;
 use sheet::{Call, Verdict, replay};
 use std::io;
 
 fn main(rt: HostRuntime) -> io::Result<()> {
     let (model, zones) = model_and_zones(&rt)?;
-    let mut area = [<bound::Dense as bound::Bound>::NONE; 578];
+    let mut area = [Dense::NONE; 578];
     let calls = vec![in rt.alloc(); Call::Settle(578); 65_535]?;
     let sheet = replay(&model, &zones, &calls, &mut area);
     match sheet.verdict() {

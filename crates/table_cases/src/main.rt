@@ -208,8 +208,8 @@ fn all<B: Bound>(show: &Show, memory: &mut [B]) -> io::Result<()> {
 }
 
 fn main(rt: HostRuntime) -> io::Result<()> {
-    let mut dense = [<Dense as Bound>::NONE; 342];
-    let mut ticks = [<Ticks as Bound>::NONE; 342];
+    let mut dense = [Dense::NONE; 342];
+    let mut ticks = [Ticks::NONE; 342];
     all(
         &Show {
             rt: &rt,
