@@ -4,8 +4,9 @@
 usage: python3 tools/respell.py        at the top of the repository, once
 
 It looks for the names that the repository defines (in specs/ and proofs/: definitions, fields, parameters, bound names),
-turns those with a dash, and leaves the names of the library and the names that the prover makes. Functions, types, strings
-and comments of src/ are not touched. It prints names that would fall together and then turns none.
+turns those with a dash, and leaves the names of the library, the names that the prover makes, and comments. No name of src/
+has a dash, so of src/ only clauses change; a string there that held such a word would change too (none does). It prints names
+that would fall together, and then turns none.
 """
 import os
 import re

@@ -3,7 +3,8 @@ use Rattle.std.proofs.Common.{◌≡◌, ℕ, zero, suc, ◌+◌, ◌*◌, ◌^�
 use lib.IntN.{zero-*ℤ}
 use Rattle.std.proofs.lemmas.Int.{ints}
 use Rattle.bound.specs.Time.{Meaning, Splits, Within, Same}
-use Rattle.dbm.specs.Table.{entry, Sat, Tightened, Closed, Solution, Tight, ConsistentTable, AfterTurns}
+use Rattle.dbm.specs.Table.{entry, Sat, Tightened, Closed, Solution, Tight, ConsistentTable, AfterTurns, TurnsMade}
+use Rattle.dbm.specs.declared.close.Consistency.TheVariants.{Inconsistent}
 use Rattle.dbm.proofs.Laws.{Laws}
 use Rattle.dbm.proofs.Pivot.{Turned, flat_sum, old_through, new_through}
 use Rattle.dbm.proofs.Tight.{tight}
@@ -82,6 +83,10 @@ module _ {B : Type 0} (admits : ℕ → Type 0) (allows : B → Meaning) (size :
 
     pub no_old_solution : (old now : List B) (k : ℕ) → Going old now k → (p : ℕ) → p < n → (Within admits (allows origin) (allows (E now p p)) → ⊥) → Solution admits allows (E old) n → ⊥
     no_old_solution old now k r p p_in never s = no_solution now p p_in never s.scale s.value s.admitted ((r.same s.scale s.value s.admitted).0 s.keeps)
+
+    -- such an entry ends the turns
+    pub ends_early : (old now : List B) (k : ℕ) → Going old now k → (p : ℕ) → p < n → (Within admits (allows origin) (allows (E now p p)) → ⊥) → TurnsMade admits allows Inconsistent size none n old now
+    ends_early old now k r p p_in never = (r.same, no_old_solution old now k r p p_in never)
 
     -- a diagonal entry that does not allow 0 is found
     pub some_diagonal : (old now : List B) (k : ℕ) → Going old now k → (((i : ℕ) → i < n → Within admits (allows origin) (allows (E now i i))) → ⊥) → Solution admits allows (E old) n → ⊥

@@ -87,6 +87,20 @@ mod tests {
     }
 
     #[test]
+    fn one_argument_names_the_model(rt: HostRuntime) -> Result<(), Fail> {
+        // The argument that a test is given.
+        let argument = "tests::one_argument_names_the_model";
+        fs::write(&rt, argument, &[1u8])?;
+        fs::write(&rt, "ZONES", &[2u8, 3])?;
+        let (model, zones) = model_and_zones(&rt)?;
+        fs::remove_file(&rt, argument)?;
+        fs::remove_file(&rt, "ZONES")?;
+        assert_eq!(rt; model.len(), 1);
+        assert_eq!(rt; zones.len(), 2);
+        Ok(())
+    }
+
+    #[test]
     fn a_missing_file_is_empty(rt: HostRuntime) {
         assert_eq!(rt; contents(&rt, "no such file").len(), 0);
         assert_eq!(rt; contents(&rt, ".").len(), 0);
