@@ -1,15 +1,15 @@
 -- Dense time keeps the laws of a kind of time. Assumes nothing.
-use Rattle.std.specs.Prelude.{◌≡◌, ℕ, ◌+◌, ◌*◌, ◌≤◌, Bool, true, false, not, ◌||◌, ◌⊎◌, ℤ, pos, ◌+ℤ◌, ◌-ℤ◌, ◌*ℤ◌, ◌≤ℤ◌, ◌<ℤ◌, Decides, ◌≢◌, int_lt, refl}
-use Rattle.std.proofs.Common.{arith, mul_comm, mul-one, sym, ap, subst, ◌∙◌, inl, inr}
+use Rattle.std.specs.Prelude.{◌≡◌, ℕ, ◌*◌, ◌≤◌, Bool, true, false, ◌||◌, ◌⊎◌, ℤ, pos, ◌+ℤ◌, ◌-ℤ◌, ◌*ℤ◌, ◌<ℤ◌, not, ◌≢◌, Decides, Option, int_lt, int_le, refl}
+use Rattle.std.proofs.Common.{arith, mul_comm, sym, ap, subst, inl, inr}
 use Rattle.std.proofs.lemmas.Nat.{mul-le}
 use Rattle.std.proofs.lemmas.Bool.{true≢false}
 use Rattle.std.proofs.lemmas.Int.{ints, by_lt_z}
 use Rattle.bound.specs.Time.{Meaning, Common, Within, Splits, Made, Same}
-use Rattle.bound.specs.Kinds.{DenseAllows, dense_size}
-use Rattle.bound.specs.declared.dense.Dense.{Dense}
-use Rattle.bound.specs.declared.dense.Dense.TheVariants.{Unbounded, Limit}
-use Rattle.bound.specs.Integers.{abs_sum, up_times, times_sum, times_times, times_one, times_strict}
-use Rattle.bound.specs.Scales.{factor_some, made_lower, made_finer, made_at_most, made_below, sum_of}
+use Rattle.bound.specs.Kinds.{DenseAllows, DenseLimitAllows}
+use Rattle.bound.specs.declared.dense.DenseLimit.{DenseLimit}
+use Rattle.bound.specs.declared.dense.DenseLimit.TheVariants.{Below, AtMost}
+use Rattle.bound.specs.Integers.{up_times, times_sum, times_times, times_strict}
+use Rattle.bound.specs.Scales.{flat, factor_some, made_finer, made_at_most, made_below, sum_of}
 
 abbrev pub every : ℕ → Type 0
 every k = 1 ≤ k
@@ -17,13 +17,18 @@ every k = 1 ≤ k
 pub dense_common : (k l : ℕ) → every k → every l → Common every k l
 dense_common k l a b = record { left = l; right = k; same = mul_comm k l; scale = mul-le 1 1 k l a b }
 
-pub dense_lower : (b : Dense) (k : ℕ) (u v : ℤ) → DenseAllows b k v → u ≤ℤ v → DenseAllows b k u
-dense_lower Unbounded k u v h le = tt
-dense_lower (Limit n s) k u v h le = made_lower n s k u v h le
+pub dense_finer : (b : DenseLimit) (k m : ℕ) (v : ℤ) → every (k * m) → Same (DenseLimitAllows b k v) (DenseLimitAllows b (k * m) (v *ℤ pos m))
+dense_finer (Below n) k m v some = made_finer n true k m v (factor_some k m some)
+dense_finer (AtMost n) k m v some = made_finer n false k m v (factor_some k m some)
 
-pub dense_finer : (b : Dense) (k m : ℕ) (v : ℤ) → every (k * m) → Same (DenseAllows b k v) (DenseAllows b (k * m) (v *ℤ pos m))
-dense_finer Unbounded k m v some = (λ _. tt, λ _. tt)
-dense_finer (Limit n s) k m v some = made_finer n s k m v (factor_some k m some)
+-- a limit allows what is below its number, and not what is above it
+pub dense_allowed : (b : DenseLimit) (k : ℕ) → every k → (v : ℤ) × DenseLimitAllows b k v
+dense_allowed (Below n) k ok = (n *ℤ pos k -ℤ pos 1, omega (arith, ints))
+dense_allowed (AtMost n) k ok = (n *ℤ pos k -ℤ pos 1, omega (arith, ints))
+
+pub dense_refused : (b : DenseLimit) (k : ℕ) → every k → (v : ℤ) × (DenseLimitAllows b k v → ⊥)
+dense_refused (Below n) k ok = (n *ℤ pos k +ℤ pos 1, λ h. omega (arith, ints, h))
+dense_refused (AtMost n) k ok = (n *ℤ pos k +ℤ pos 1, λ h. omega (arith, ints, h))
 
 -- ---- comparing
 
@@ -53,36 +58,38 @@ weak_not a b e within =
     let same : v ≡ b *ℤ pos 1 = ap (λ (z : ℤ). z *ℤ pos 1) e in
     omega (arith, ints)
 
--- nor none within a number
-pub none_not : (a : ℤ) (s : Bool) → Within every (λ k v. Unit {0}) (Made a s) → ⊥
-none_not a s within =
-    let v : ℤ = a *ℤ pos 1 +ℤ pos 1 in
-    let in_a = made_at_most a s 1 v (within 1 v (omega arith) tt) in
-    omega (arith, ints, in_a)
-
 total_equal : (a b : ℤ) (s r : Bool) → a ≡ b → Within every (Made a s) (Made b r) ⊎ Within every (Made b r) (Made a s)
 total_equal a b s false e = inl (equal_within a b s false e (λ t. absurd (true≢false (sym t))))
 total_equal a b s true e = inr (equal_within b a true s (sym e) (λ _. refl))
 
-pub dense_total : (a b : Dense) → Within every (DenseAllows a) (DenseAllows b) ⊎ Within every (DenseAllows b) (DenseAllows a)
-dense_total a Unbounded = inl (λ k v ok h. tt)
-dense_total Unbounded (Limit b r) = inr (λ k v ok h. tt)
-dense_total (Limit a s) (Limit b r) = by_lt_z a b (λ less. inl (less_within a b s r less)) (λ more. by_lt_z b a (λ less. inr (less_within b a r s less)) (λ same. total_equal a b s r (omega (arith, ints))))
+total_made : (a b : ℤ) (s r : Bool) → Within every (Made a s) (Made b r) ⊎ Within every (Made b r) (Made a s)
+total_made a b s r = by_lt_z a b (λ less. inl (less_within a b s r less)) (λ more. by_lt_z b a (λ less. inr (less_within b a r s less)) (λ same. total_equal a b s r (omega (arith, ints))))
 
-pub moved : (a c b d : ℤ) (s r t : Bool) → a ≡ c → b ≡ d → Decides t (Within every (Made a s) (Made b r)) → Decides t (Within every (Made c s) (Made d r))
-moved a c b d s r t e f h = subst (λ (z : ℤ). Decides t (Within every (Made z s) (Made d r))) e (subst (λ (z : ℤ). Decides t (Within every (Made a s) (Made z r))) f h)
+pub dense_total : (a b : DenseLimit) → Within every (DenseLimitAllows a) (DenseLimitAllows b) ⊎ Within every (DenseLimitAllows b) (DenseLimitAllows a)
+dense_total (Below a) (Below b) = total_made a b true true
+dense_total (Below a) (AtMost b) = total_made a b true false
+dense_total (AtMost a) (Below b) = total_made a b false true
+dense_total (AtMost a) (AtMost b) = total_made a b false false
 
-less_tested : (a b : ℤ) → a <ℤ b → int_lt a b ≡ true
-less_tested a b h = grind (arith, ints)
+-- but for a weak limit against a strict one, the numbers decide
+pub decide : (a b : ℤ) (s r : Bool) → ((r ≡ true) → s ≡ true) → Decides (int_le a b) (Within every (Made a s) (Made b r))
+decide a b s r strict = (
+  λ e. by_lt_z a b (λ less. less_within a b s r less) (λ more. equal_within a b s r (grind (arith, ints)) strict),
+  λ w. by_lt_z b a (λ less. absurd (greater_not a b s r less w)) (λ more. grind (arith, ints)),
+)
 
-tested_less : (a b : ℤ) → int_lt a b ≡ true → a <ℤ b
-tested_less a b h = grind (arith, ints)
+-- a weak limit is within a strict one only at a smaller number
+pub decide_weak : (a b : ℤ) → Decides (int_lt a b) (Within every (Made a false) (Made b true))
+decide_weak a b = (
+  λ e. less_within a b false true (grind (arith, ints)),
+  λ w. by_lt_z a b (λ less. grind (arith, ints)) (λ more. by_lt_z b a (λ less. absurd (greater_not a b false true less w)) (λ same. absurd (weak_not a b (omega (arith, ints)) w))),
+)
 
 -- two limits with different numbers
 pub decide_apart : (a b : ℤ) (s r : Bool) → (a ≢ b) → Decides (int_lt a b) (Within every (Made a s) (Made b r))
 decide_apart a b s r apart = (
-  λ e. less_within a b s r (tested_less a b e),
-  λ w. by_lt_z a b (less_tested a b) (λ more. by_lt_z b a (λ less. absurd (greater_not a b s r less w)) (λ same. absurd (apart (omega (arith, ints))))),
+  λ e. less_within a b s r (grind (arith, ints)),
+  λ w. by_lt_z a b (λ less. grind (arith, ints)) (λ more. by_lt_z b a (λ less. absurd (greater_not a b s r less w)) (λ same. absurd (apart (omega (arith, ints))))),
 )
 
 -- and with the same number
@@ -101,21 +108,6 @@ sum_tells a b s r k v p =
     let m = p.times in
     let whole = sum_of a b s r (k * m) p.first p.second p.first_in p.second_in in
     (made_finer (a +ℤ b) (s || r) k m v (factor_some k m p.scale)).1 (subst (Made (a +ℤ b) (s || r) (k * m)) p.adds whole)
-
-one_scale : (k : ℕ) → every k → every (k * 1)
-one_scale k ok = subst every (sym (mul-one k)) ok
-
--- with no finer scale: the first part is given
-flat : (a b : Meaning) (k : ℕ) (u w v : ℤ) → every k → u +ℤ w ≡ v → a k u → b k w → Sum a b k v
-flat a b k u w v ok e in_a in_b = record {
-  times = 1;
-  scale = one_scale k ok;
-  first = u;
-  second = w;
-  adds = e ∙ sym (times_one v);
-  first_in = subst (λ (n : ℕ). a n u) (sym (mul-one k)) in_a;
-  second_in = subst (λ (n : ℕ). b n w) (sym (mul-one k)) in_b;
-}
 
 -- at twice the scale: the first part is half a unit below its bound
 halved : (a b : ℤ) (s r : Bool) (k : ℕ) (v : ℤ) → every k → v <ℤ ((a +ℤ b) *ℤ pos k) → Sum (Made a s) (Made b r) k v
@@ -138,47 +130,19 @@ halved a b s r k v ok h =
 pub sum_is : (a b : ℤ) (s r : Bool) (k : ℕ) (v : ℤ) → every k → Made (a +ℤ b) (s || r) k v → Sum (Made a s) (Made b r) k v
 sum_is a b false false k v ok h =
     let spread = times_sum a b k in
-    flat (Made a false) (Made b false) k (a *ℤ pos k) (v -ℤ a *ℤ pos k) v ok (omega (arith, ints)) (omega (arith, ints)) (omega (arith, ints))
+    flat every (Made a false) (Made b false) k (a *ℤ pos k) (v -ℤ a *ℤ pos k) v ok (omega (arith, ints)) (omega (arith, ints)) (omega (arith, ints))
 sum_is a b false true k v ok h = halved a b false true k v ok h
 sum_is a b true false k v ok h = halved a b true false k v ok h
 sum_is a b true true k v ok h = halved a b true true k v ok h
 
-some_allowed : (b : Dense) (k : ℕ) → (w : ℤ) × DenseAllows b k w
-some_allowed Unbounded k = (pos 0, tt)
-some_allowed (Limit n s) k = (n *ℤ pos k -ℤ pos 1, made_below n s k _ (omega (arith, ints)))
-
--- none plus anything is none
-pub none_left : (b : Dense) (k : ℕ) (v : ℤ) → every k → Sum (DenseAllows Unbounded) (DenseAllows b) k v
-none_left b k v ok = let w = some_allowed b k in flat (DenseAllows Unbounded) (DenseAllows b) k (v -ℤ w.0) w.0 v ok (omega (arith, ints)) tt w.1
-
-pub none_right : (a : Dense) (k : ℕ) (v : ℤ) → every k → Sum (DenseAllows a) (DenseAllows Unbounded) k v
-none_right a k v ok = let u = some_allowed a k in flat (DenseAllows a) (DenseAllows Unbounded) k u.0 (v -ℤ u.0) v ok (omega (arith, ints)) u.1 tt
-
 -- ---- bounds as they are made
 
-module _ (x y z : Dense) where
-  pub sum_meaning : (a b : ℤ) (s r : Bool) → x ≡ Limit a s → y ≡ Limit b r → z ≡ Limit (a +ℤ b) (s || r) → (k : ℕ) (v : ℤ) → every k → Same (DenseAllows z k v) (Splits every (DenseAllows x) (DenseAllows y) k v)
-  sum_meaning a b s r ex ey ez k v ok =
-      subst (λ (q : Dense). Same (DenseAllows q k v) (Splits every (DenseAllows x) (DenseAllows y) k v)) (sym ez)
-      (subst (λ (q : Dense). Same (Made (a +ℤ b) (s || r) k v) (Splits every (DenseAllows q) (DenseAllows y) k v)) (sym ex)
-      (subst (λ (q : Dense). Same (Made (a +ℤ b) (s || r) k v) (Splits every (Made a s) (DenseAllows q) k v)) (sym ey)
-      (sum_is a b s r k v ok, sum_tells a b s r k v)))
-
-  pub sum_small : (a b : ℤ) (s r : Bool) → x ≡ Limit a s → y ≡ Limit b r → z ≡ Limit (a +ℤ b) (s || r) → dense_size z ≤ dense_size x + dense_size y
-  sum_small a b s r ex ey ez = omega (arith, ap dense_size ex, ap dense_size ey, ap dense_size ez, abs_sum a b)
-
-  pub none_first : x ≡ Unbounded → (k : ℕ) (v : ℤ) → every k → Same (Unit {0}) (Splits every (DenseAllows x) (DenseAllows y) k v)
-  none_first e k v ok = (λ _. subst (λ (q : Dense). Splits every (DenseAllows q) (DenseAllows y) k v) (sym e) (none_left y k v ok), λ _. tt)
-
-  pub none_second : y ≡ Unbounded → (k : ℕ) (v : ℤ) → every k → Same (Unit {0}) (Splits every (DenseAllows x) (DenseAllows y) k v)
-  none_second e k v ok = (λ _. subst (λ (q : Dense). Splits every (DenseAllows x) (DenseAllows q) k v) (sym e) (none_right x k v ok), λ _. tt)
-
 -- x allows what A does
-abbrev pub Means : Dense → Meaning → Type 0
+abbrev pub Means : Option DenseLimit → Meaning → Type 0
 Means x A = (k : ℕ) (v : ℤ) → every k → Same (DenseAllows x k v) (A k v)
 
 -- what a sum of made bounds allows, known by meanings alone
-pub sum_of_made : (x y z : Dense) (a b : ℤ) (s r : Bool) → Means x (Made a s) → Means y (Made b r) → Means z (Splits every (DenseAllows x) (DenseAllows y)) → (k : ℕ) (v : ℤ) → every k → DenseAllows z k v → Made (a +ℤ b) (s || r) k v
+pub sum_of_made : (x y z : Option DenseLimit) (a b : ℤ) (s r : Bool) → Means x (Made a s) → Means y (Made b r) → Means z (Splits every (DenseAllows x) (DenseAllows y)) → (k : ℕ) (v : ℤ) → every k → DenseAllows z k v → Made (a +ℤ b) (s || r) k v
 sum_of_made x y z a b s r mx my mz k v ok h =
     let p = (mz k v ok).0 h in
     sum_tells a b s r k v record {
@@ -196,7 +160,7 @@ pub not_below_zero : (k : ℕ) → Made (pos 0) true k (pos 0) → ⊥
 not_below_zero k h = omega (arith, ints, up_times (pos 0) k)
 
 -- and what is below the sum of their numbers is allowed
-pub below_sum : (x y z : Dense) (a b : ℤ) (s r : Bool) → Means x (Made a s) → Means y (Made b r) → Means z (Splits every (DenseAllows x) (DenseAllows y)) → (k : ℕ) (v : ℤ) → every k → v <ℤ ((a +ℤ b) *ℤ pos k) → DenseAllows z k v
+pub below_sum : (x y z : Option DenseLimit) (a b : ℤ) (s r : Bool) → Means x (Made a s) → Means y (Made b r) → Means z (Splits every (DenseAllows x) (DenseAllows y)) → (k : ℕ) (v : ℤ) → every k → v <ℤ ((a +ℤ b) *ℤ pos k) → DenseAllows z k v
 below_sum x y z a b s r mx my mz k v ok h =
     let p = halved a b s r k v ok h in
     (mz k v ok).1 record {

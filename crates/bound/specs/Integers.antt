@@ -1,26 +1,25 @@
 -- Products of integers: laws that the logic's library lacks. Assumes nothing.
-use Rattle.std.specs.Prelude.{◌≡◌, ℕ, ◌+◌, ◌*◌, ◌≤◌, ◌⊎◌, ℤ, pos, negsuc, ◌+ℤ◌, ◌*ℤ◌, neg_ℤ, ◌≤ℤ◌, ◌<ℤ◌, unsigned_abs, refl}
-use Rattle.std.proofs.Common.{arith, add-mul, mul_assoc, mul-le-mul_right, ap, inl, inr, ⊎_elim}
-use borrow.Author.Differences.{up, down, same_in, sum_is_lem, neg_is, product_is}
+use Rattle.std.specs.Prelude.{◌≡◌, ℕ, ◌+◌, ◌*◌, ◌≤◌, ℤ, pos, ◌+ℤ◌, ◌*ℤ◌, neg_ℤ, ◌≤ℤ◌, ◌<ℤ◌, unsigned_abs}
+use Rattle.std.proofs.Common.{arith, add-mul, mul_assoc, mul-le-mul_right, ap}
+use borrow.Author.Differences.{up, down, sum_is_lem, neg_is, product_is}
 use Rattle.std.proofs.lemmas.Int.{ints, by_lt_z}
 
 -- a product by a natural, by parts
 pub up_times : (a : ℤ) (n : ℕ) → (up (a *ℤ pos n) ≡ up a * n) × (down (a *ℤ pos n) ≡ down a * n)
-up_times (pos a) n = omega arith
-up_times (negsuc a) n = omega (arith, product_is (negsuc a) (pos n))
+up_times a n = omega (arith, product_is a (pos n))
 
 pub times_sum : (a b : ℤ) (n : ℕ) → (a +ℤ b) *ℤ pos n ≡ a *ℤ pos n +ℤ b *ℤ pos n
 times_sum a b n =
-    let e : (up (a +ℤ b) + down a + down b) * n ≡ (down (a +ℤ b) + up a + up b) * n = ap (λ (x : ℕ). x * n) (sum_is_lem a b) in
-    let l = simp add-mul at e in
-    same_in _ _ (omega (arith, l, up_times (a +ℤ b) n, up_times a n, up_times b n, sum_is_lem (a *ℤ pos n) (b *ℤ pos n)))
+    let e = simp add-mul at (ap (λ (x : ℕ). x * n) (sum_is_lem a b)) in
+    omega (arith, ints, e, up_times (a +ℤ b) n, up_times a n, up_times b n)
 
 pub times_neg : (a : ℤ) (n : ℕ) → neg_ℤ a *ℤ pos n ≡ neg_ℤ (a *ℤ pos n)
-times_neg a n = same_in _ _ (omega (arith, up_times (neg_ℤ a) n, up_times a n, ap (λ (x : ℕ). x * n) (neg_is a).0, ap (λ (x : ℕ). x * n) (neg_is a).1, neg_is (a *ℤ pos n)))
+times_neg a n = omega (arith, ints, up_times (neg_ℤ a) n, up_times a n, ap (λ (x : ℕ). x * n) (neg_is a).0, ap (λ (x : ℕ). x * n) (neg_is a).1)
 
 pub times_times : (a : ℤ) (m n : ℕ) → a *ℤ pos m *ℤ pos n ≡ a *ℤ pos (m * n)
 times_times a m n =
-    same_in _ _ (omega (arith, up_times (a *ℤ pos m) n, up_times a (m * n), ap (λ (x : ℕ). x * n) (up_times a m).0, ap (λ (x : ℕ). x * n) (up_times a m).1, mul_assoc (up a) m n, mul_assoc (down a) m n))
+    let e = up_times a m in
+    omega (arith, ints, up_times (a *ℤ pos m) n, up_times a (m * n), ap (λ (x : ℕ). x * n) e.0, ap (λ (x : ℕ). x * n) e.1, mul_assoc (up a) m n, mul_assoc (down a) m n)
 
 pub times_mono : (a b : ℤ) (n : ℕ) → a ≤ℤ b → (a *ℤ pos n) ≤ℤ (b *ℤ pos n)
 times_mono a b n h =
@@ -28,7 +27,7 @@ times_mono a b n h =
     omega (arith, ints, up_times a n, up_times b n, add-mul (up a) (down b) n, add-mul (up b) (down a) n, e)
 
 pub times_one : (a : ℤ) → a *ℤ pos 1 ≡ a
-times_one a = same_in _ _ (omega (arith, up_times a 1))
+times_one a = omega (arith, ints, up_times a 1)
 
 -- a product by a positive natural keeps and tells the order
 pub times_strict : (a b : ℤ) (n : ℕ) → 1 ≤ n → a <ℤ b → (a *ℤ pos n) <ℤ (b *ℤ pos n)
@@ -45,14 +44,5 @@ pub times_tells_strict : (a b : ℤ) (n : ℕ) → 1 ≤ n → (a *ℤ pos n) <�
 times_tells_strict a b n some h = by_lt_z a b (λ less. less) (λ more. let e = times_mono b a n more in absurd (omega (arith, ints)))
 
 -- sizes
-one_side : (a : ℤ) → ((up a ≡ 0) ⊎ (down a ≡ 0)) × (unsigned_abs a ≡ up a + down a)
-one_side (pos n) = (inr refl, omega arith)
-one_side (negsuc n) = (inl refl, omega arith)
-
 pub abs_sum : (a b : ℤ) → unsigned_abs (a +ℤ b) ≤ unsigned_abs a + unsigned_abs b
-abs_sum a b =
-    let s = one_side (a +ℤ b) in
-    let x = (one_side a).1 in
-    let y = (one_side b).1 in
-    let e = sum_is_lem a b in
-    ⊎_elim (λ z. omega (arith, s.1)) (λ z. omega (arith, s.1)) s.0
+abs_sum a b = omega (arith, ints)

@@ -4,3 +4,4 @@ pub mod DenseLaws
 pub mod Integers
 pub mod Scales
 pub mod TickLaws
+pub mod Lifted

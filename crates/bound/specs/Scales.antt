@@ -1,9 +1,9 @@
 -- The differences that a made bound allows, at one scale and at finer ones. Assumes nothing.
 use Rattle.std.specs.Prelude.{◌≡◌, ℕ, zero, suc, ◌*◌, ◌≤◌, Bool, true, false, ◌||◌, ℤ, pos, ◌+ℤ◌, ◌*ℤ◌, ◌≤ℤ◌, ◌<ℤ◌}
-use Rattle.std.proofs.Common.{arith, mul-zero, sym, subst}
+use Rattle.std.proofs.Common.{arith, mul-zero, mul-one, sym, subst, ◌∙◌}
 use Rattle.std.proofs.lemmas.Int.{ints}
-use Rattle.bound.specs.Time.{Made, Same}
-use Rattle.bound.specs.Integers.{up_times, times_sum, times_times, times_mono, times_strict, times_tells, times_tells_strict}
+use Rattle.bound.specs.Time.{Meaning, Splits, Made, Same}
+use Rattle.bound.specs.Integers.{times_one, up_times, times_sum, times_times, times_mono, times_strict, times_tells, times_tells_strict}
 
 -- a factor of a positive product is positive
 pub factor_some : (k m : ℕ) → 1 ≤ k * m → 1 ≤ m
@@ -39,12 +39,21 @@ made_none k v = (λ h. omega (arith, ints, up_times (pos 0) k), λ h. omega (ari
 
 -- ---- sums
 
-pub plus_times : (a b : ℤ) (k : ℕ) → (a +ℤ b) *ℤ pos k ≡ a *ℤ pos k +ℤ b *ℤ pos k
-plus_times a b k = times_sum a b k
-
 -- two differences that are allowed add up to one that the sum allows
 pub sum_of : (a b : ℤ) (s r : Bool) (k : ℕ) (u w : ℤ) → Made a s k u → Made b r k w → Made (a +ℤ b) (s || r) k (u +ℤ w)
-sum_of a b false false k u w p q = omega (arith, ints, plus_times a b k)
-sum_of a b false true k u w p q = omega (arith, ints, plus_times a b k)
-sum_of a b true false k u w p q = omega (arith, ints, plus_times a b k)
-sum_of a b true true k u w p q = omega (arith, ints, plus_times a b k)
+sum_of a b false false k u w p q = omega (arith, ints, times_sum a b k)
+sum_of a b false true k u w p q = omega (arith, ints, times_sum a b k)
+sum_of a b true false k u w p q = omega (arith, ints, times_sum a b k)
+sum_of a b true true k u w p q = omega (arith, ints, times_sum a b k)
+
+-- with no finer scale: the first part is given
+pub flat : (admits : ℕ → Type 0) (a b : Meaning) (k : ℕ) (u w v : ℤ) → admits k → u +ℤ w ≡ v → a k u → b k w → Splits admits a b k v
+flat admits a b k u w v ok e in_a in_b = record {
+  times = 1;
+  scale = subst admits (sym (mul-one k)) ok;
+  first = u;
+  second = w;
+  adds = e ∙ sym (times_one v);
+  first_in = subst (λ (n : ℕ). a n u) (sym (mul-one k)) in_a;
+  second_in = subst (λ (n : ℕ). b n w) (sym (mul-one k)) in_b;
+}

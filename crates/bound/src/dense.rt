@@ -1,52 +1,34 @@
 // Dense time: every scale.
-ghost use Rattle.std.specs.Prelude.{◌≡◌, ℕ, ◌+◌, ◌^◌, ◌≤◌, false, ◌||◌, ℤ, pos, ◌+ℤ◌, ◌<ℤ◌, Decides, unsigned_abs};
-ghost use Rattle.bound.specs.Time.{Within, Made};
-ghost use Rattle.bound.specs.Kinds.{DenseAllows, dense_size};
-ghost use Rattle.bound.specs.declared.dense.Dense.TheVariants.{Unbounded, Limit};
+ghost use Rattle.std.specs.Prelude.{ℕ, ◌≤◌, false, ℤ, pos, ◌<ℤ◌};
+ghost use Rattle.bound.specs.declared.dense.DenseLimit.TheVariants.{AtMost};
+ghost use Rattle.bound.specs.Kinds.{DenseAllows, DenseLimitAllows, dense_limit_size};
 ghost use Rattle.std.proofs.Common.{arith, rules};
-ghost use Rattle.bound.specs.DenseLaws.{dense_common, dense_finer, dense_total};
+ghost use Rattle.bound.specs.DenseLaws.{dense_common, dense_finer, dense_total, dense_allowed, dense_refused};
 
 use crate::kind::Bound;
+use crate::limit::Limit;
 
-// A bound of dense time: none, or a number with its strict mark.
+// A limit of dense time: below a number, or at most a number. Two variants, and not a number with a mark beside it: copying
+// the bytes that fill such a struct up makes closing a table four times slower.
 #[derive(Clone, Copy, Debug, PartialEq, Eq)]
-pub enum Dense {
-    Unbounded,
-    Limit(i64, bool),
+pub enum DenseLimit {
+    Below(i64),
+    AtMost(i64),
 }
 
-// Of two limits: the smaller number is within the greater; at the same number a weak limit is not within a strict one.
-fn lies_within(a: i64, a_strict: bool, b: i64, b_strict: bool) -> bool
-    ensures { Decides result (Within (λ k. 1 ≤ k) (Made a a_strict) (Made b b_strict)) }
-{
-    if a != b {
-        return a < b;
-    }
-    a_strict || !b_strict
-}
+// A bound of dense time.
+pub type Dense = Option<DenseLimit>;
 
-// The sum of two limits is strict if one of them is.
-fn limit_sum(a: i64, a_strict: bool, b: i64, b_strict: bool) -> Dense
-    requires { unsigned_abs a + unsigned_abs b ≤ 2 ^ 60 }
-    ensures { result ≡ Limit (a +ℤ b) (a_strict || b_strict) }
-{
-    Dense::Limit(a + b, a_strict || b_strict)
-}
-
-impl Bound for Dense {
+impl Limit for DenseLimit {
     ghost admits = { λ k. 1 ≤ k };
 
-    ghost allows = { DenseAllows };
+    ghost allows = { DenseLimitAllows };
 
-    ghost size = { dense_size };
+    ghost size = { dense_limit_size };
 
-    ghost unbounded = { Unbounded };
+    ghost ZERO = { AtMost (pos 0) };
 
-    ghost origin = { Limit (pos 0) false };
-
-    const NONE: Dense = Dense::Unbounded;
-
-    const ZERO: Dense = Dense::Limit(0, false);
+    const ZERO: DenseLimit = DenseLimit::AtMost(0);
 
     ghost some_scale = { (1, omega arith) };
 
@@ -60,43 +42,40 @@ impl Bound for Dense {
 
     ghost total = { dense_total };
 
-    ghost none_allows = { Prim.search rules };
-
     ghost zero_allows = { Prim.search rules };
-
-    ghost none_size = { Prim.search rules };
 
     ghost zero_size = { Prim.search rules };
 
-    fn no_bound() -> Dense {
-        Self::NONE
-    }
+    ghost some_allowed = { dense_allowed };
 
-    fn zero_bound() -> Dense {
-        Self::ZERO
-    }
+    ghost some_refused = { dense_refused };
 
-    fn make(d: i32, strict: bool) -> Dense {
-        Dense::Limit(i64::from(d), strict)
-    }
-
-    fn not_greater(self, other: Dense) -> bool {
-        match (self, other) {
-            (_, Dense::Unbounded) => true,
-            (Dense::Unbounded, Dense::Limit(_, _)) => false,
-            (Dense::Limit(a, a_strict), Dense::Limit(b, b_strict)) => lies_within(
-                a, a_strict, b, b_strict,
-            ),
+    fn make(d: i32, strict: bool) -> DenseLimit {
+        if strict {
+            DenseLimit::Below(i64::from(d))
+        } else {
+            DenseLimit::AtMost(i64::from(d))
         }
     }
 
-    fn sum(self, other: Dense) -> Dense {
+    // The smaller number is within the greater; at the same number only a weak limit is not within a strict one. No order is
+    // derived for this: then Option's order, which puts none first, would order bounds too.
+    fn not_greater(self, other: DenseLimit) -> bool {
         match (self, other) {
-            (Dense::Unbounded, _) => Dense::Unbounded,
-            (Dense::Limit(_, _), Dense::Unbounded) => Dense::Unbounded,
-            (Dense::Limit(a, a_strict), Dense::Limit(b, b_strict)) => limit_sum(
-                a, a_strict, b, b_strict,
-            ),
+            (DenseLimit::AtMost(a), DenseLimit::Below(b)) => a < b,
+            (DenseLimit::Below(a), DenseLimit::Below(b)) => a <= b,
+            (DenseLimit::Below(a), DenseLimit::AtMost(b)) => a <= b,
+            (DenseLimit::AtMost(a), DenseLimit::AtMost(b)) => a <= b,
+        }
+    }
+
+    // A sum is strict if one of its parts is.
+    fn sum(self, other: DenseLimit) -> DenseLimit {
+        match (self, other) {
+            (DenseLimit::AtMost(a), DenseLimit::AtMost(b)) => DenseLimit::AtMost(a + b),
+            (DenseLimit::Below(a), DenseLimit::Below(b)) => DenseLimit::Below(a + b),
+            (DenseLimit::Below(a), DenseLimit::AtMost(b)) => DenseLimit::Below(a + b),
+            (DenseLimit::AtMost(a), DenseLimit::Below(b)) => DenseLimit::Below(a + b),
         }
     }
 }
@@ -107,7 +86,7 @@ pub fn strict_five_less_five() -> Dense
     ensures zero { (k : ℕ) → 1 ≤ k → DenseAllows result k (pos 0) → ⊥ }
     ensures below { (k : ℕ) (v : ℤ) → 1 ≤ k → v <ℤ pos 0 → DenseAllows result k v }
 {
-    let strict = Dense::make(5, true);
-    let weak = Dense::make(-5, false);
-    Dense::sum(strict, weak)
+    let below = Dense::make(5, true);
+    let at_most = Dense::make(-5, false);
+    below.sum(at_most)
 }

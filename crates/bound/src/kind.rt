@@ -11,22 +11,14 @@ pub trait Bound: Copy {
 
     ghost size: { Self → ℕ };
 
-    // the values of NONE and ZERO
-    ghost unbounded: { Self };
-
-    ghost origin: { Self };
-
     // No bound at all, and at most 0.
+    ghost NONE: { Self };
+
     const NONE: Self;
 
+    ghost ZERO: { Self };
+
     const ZERO: Self;
-
-    // NONE and ZERO again, with what is known of them.
-    fn no_bound() -> Self
-        ensures { result ≡ unbounded };
-
-    fn zero_bound() -> Self
-        ensures { result ≡ origin };
 
     // At most d, or below d if strict.
     fn make(d: i32, strict: bool) -> Self
@@ -55,11 +47,11 @@ pub trait Bound: Copy {
 
     ghost total: { (a b : Self) → Within admits (allows a) (allows b) ⊎ Within admits (allows b) (allows a) };
 
-    ghost none_allows: { (k : ℕ) (v : ℤ) → admits k → allows unbounded k v };
+    ghost none_allows: { (k : ℕ) (v : ℤ) → admits k → allows NONE k v };
 
-    ghost zero_allows: { (k : ℕ) (v : ℤ) → admits k → Same (allows origin k v) (v ≤ℤ pos 0) };
+    ghost zero_allows: { (k : ℕ) (v : ℤ) → admits k → Same (allows ZERO k v) (v ≤ℤ pos 0) };
 
-    ghost none_size: { size unbounded ≡ 0 };
+    ghost none_size: { size NONE ≡ 0 };
 
-    ghost zero_size: { size origin ≡ 0 };
+    ghost zero_size: { size ZERO ≡ 0 };
 }

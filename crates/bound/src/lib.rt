@@ -1,18 +1,27 @@
 //! Kinds of time: what a bound on the difference of two clocks means, and the two kinds dense and ticks.
 #![tactic(auto)]
 
+mod atom;
 mod dense;
 mod kind;
+mod limit;
 mod ticks;
 
-pub use dense::{Dense, strict_five_less_five};
+pub use atom::Atom;
+pub use dense::{Dense, DenseLimit, strict_five_less_five};
 pub use kind::Bound;
-pub use ticks::Ticks;
+pub use limit::Limit;
+pub use ticks::{TickLimit, Ticks};
 
 #[cfg(test)]
 mod tests {
     use super::*;
 
+    fn ticks(number: i64) -> Ticks {
+        Some(TickLimit { number })
+    }
+
+    // The two kinds differ in what is expected of them, so each has its own tests.
     #[test]
     fn dense_orders(rt: HostRuntime) {
         let three = Dense::make(3, false);
@@ -50,8 +59,8 @@ mod tests {
         let three = Dense::make(3, false);
         assert_eq!(rt; two.sum(three), Dense::make(5, false));
         assert_eq!(rt; strict_five_less_five(), Dense::make(0, true));
-        assert_eq!(rt; Dense::no_bound().sum(two), Dense::NONE);
-        assert_eq!(rt; two.sum(Dense::no_bound()), Dense::NONE);
+        assert_eq!(rt; Dense::NONE.sum(two), Dense::NONE);
+        assert_eq!(rt; two.sum(Dense::NONE), Dense::NONE);
     }
 
     #[test]
@@ -62,16 +71,16 @@ mod tests {
         let less_five = Ticks::make(-5, false);
         assert_eq!(rt; two.sum(three), Ticks::make(5, false));
         assert_eq!(rt; below_five.sum(less_five), Ticks::make(-1, false));
-        assert_eq!(rt; Ticks::no_bound().sum(two), Ticks::NONE);
-        assert_eq!(rt; two.sum(Ticks::no_bound()), Ticks::NONE);
+        assert_eq!(rt; Ticks::NONE.sum(two), Ticks::NONE);
+        assert_eq!(rt; two.sum(Ticks::NONE), Ticks::NONE);
     }
 
     #[test]
     fn constants(rt: HostRuntime) {
-        assert_eq!(rt; Dense::no_bound(), Dense::NONE);
-        assert_eq!(rt; Ticks::no_bound(), Ticks::NONE);
-        assert_eq!(rt; Dense::zero_bound(), Dense::ZERO);
-        assert_eq!(rt; Ticks::zero_bound(), Ticks::ZERO);
+        assert!(rt; Dense::NONE.is_none());
+        assert!(rt; Ticks::NONE.is_none());
+        assert_eq!(rt; Dense::ZERO, Some(DenseLimit::AtMost(0)));
+        assert_eq!(rt; Ticks::ZERO, Some(TickLimit { number: 0 }));
         assert_eq!(rt; Dense::make(0, false), Dense::ZERO);
         assert_eq!(rt; Ticks::make(0, false), Ticks::ZERO);
     }
@@ -80,23 +89,23 @@ mod tests {
     fn extremes(rt: HostRuntime) {
         assert_eq!(rt;
             Dense::make(i32::MIN, false),
-            Dense::Limit(-2_147_483_648, false)
+            Some(DenseLimit::AtMost(-2_147_483_648))
         );
         assert_eq!(rt;
             Dense::make(i32::MIN, true),
-            Dense::Limit(-2_147_483_648, true)
+            Some(DenseLimit::Below(-2_147_483_648))
         );
         assert_eq!(rt;
             Dense::make(i32::MAX, false),
-            Dense::Limit(2_147_483_647, false)
+            Some(DenseLimit::AtMost(2_147_483_647))
         );
         assert_eq!(rt;
             Dense::make(i32::MAX, true),
-            Dense::Limit(2_147_483_647, true)
+            Some(DenseLimit::Below(2_147_483_647))
         );
-        assert_eq!(rt; Ticks::make(i32::MIN, false), Ticks::Limit(-2_147_483_648));
-        assert_eq!(rt; Ticks::make(i32::MIN, true), Ticks::Limit(-2_147_483_649));
-        assert_eq!(rt; Ticks::make(i32::MAX, false), Ticks::Limit(2_147_483_647));
-        assert_eq!(rt; Ticks::make(i32::MAX, true), Ticks::Limit(2_147_483_646));
+        assert_eq!(rt; Ticks::make(i32::MIN, false), ticks(-2_147_483_648));
+        assert_eq!(rt; Ticks::make(i32::MIN, true), ticks(-2_147_483_649));
+        assert_eq!(rt; Ticks::make(i32::MAX, false), ticks(2_147_483_647));
+        assert_eq!(rt; Ticks::make(i32::MAX, true), ticks(2_147_483_646));
     }
 }

@@ -1,7 +1,7 @@
 // The command check: the invariant is asked of the state after a command, with the Booleans after it, and not before.
-use crate::case::Check::Command;
 use crate::case::{Case, Group};
 use crate::words::*;
+use checks::Check::Command;
 
 const GROUPS: &[Group] = &[
     // With h the invariant is x <= 3. The first command sets h, the second clears it.

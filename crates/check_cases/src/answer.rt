@@ -1,61 +1,20 @@
-// The answer to a case, the same for the four checks.
-use checks::Refusal;
+// The answer to a case.
+use checks::{Check, Refusal, Settled};
 use std::fmt;
 
+// What a check answered: the zone that a start, time or command check names, or none; whether a bad check holds.
 #[derive(Clone, Copy)]
-pub enum Answer {
-    Zone(usize),
-    NoZone,
-    Holds,
-    Fails,
-    Refused(Refusal),
-}
-
-// Which zone was found.
-fn found(zone: Option<usize>) -> Answer {
-    match zone {
-        Some(number) => Answer::Zone(number),
-        None => Answer::NoZone,
-    }
-}
-
-// Which zone a start, time or command check found.
-pub fn covered(zone: Result<Option<usize>, Refusal>) -> Answer {
-    match zone {
-        Ok(zone) => found(zone),
-        Err(refusal) => Answer::Refused(refusal),
-    }
-}
-
-// What a bad check says.
-pub fn held(holds: Result<bool, Refusal>) -> Answer {
-    match holds {
-        Ok(true) => Answer::Holds,
-        Ok(false) => Answer::Fails,
-        Err(refusal) => Answer::Refused(refusal),
-    }
-}
-
-fn reason(refusal: Refusal) -> &'static str {
-    match refusal {
-        Refusal::NotPassed => "not passed",
-        Refusal::ShortArea => "short area",
-        Refusal::NoSuchZone => "no such zone",
-        Refusal::NoSuchRecord => "no such record",
-    }
-}
+pub struct Answer(pub Check, pub Result<Settled, Refusal>);
 
 impl fmt::Display for Answer {
     fn fmt<W: fmt::Write>(&self, f: &mut fmt::Formatter<W>) -> fmt::Result {
-        match *self {
-            Answer::Zone(number) => write!(f, "zone {number}"),
-            Answer::NoZone => write!(f, "no zone"),
-            Answer::Holds => write!(f, "holds"),
-            Answer::Fails => write!(f, "fails"),
-            Answer::Refused(refusal) => {
-                let reason = reason(refusal);
-                write!(f, "refused: {reason}")
-            }
+        let Answer(check, answer) = *self;
+        match (check, answer) {
+            (_, Err(refusal)) => write!(f, "refused: {refusal}"),
+            (Check::Bad(_, _), Ok(Settled::Holds(_))) => write!(f, "holds"),
+            (Check::Bad(_, _), Ok(Settled::Fails)) => write!(f, "fails"),
+            (_, Ok(Settled::Holds(Some(zone)))) => write!(f, "zone {zone}"),
+            (_, Ok(_)) => write!(f, "no zone"),
         }
     }
 }

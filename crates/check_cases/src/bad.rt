@@ -1,7 +1,7 @@
 // The bad check: no state of a zone meets a bad record.
-use crate::case::Check::Bad;
 use crate::case::{Case, Group};
 use crate::words::*;
+use checks::Check::Bad;
 
 const GROUPS: &[Group] = &[
     // Records: h; not h with x <= 3; h and not h; x <= 1 with x >= 2.

@@ -1,20 +1,21 @@
 // Puts cases to the checks in both kinds of time, and prints a line for each.
-use crate::answer::{Answer, covered, held};
-use crate::case::{Case, Check, Group};
-use crate::file::{bytes, joined};
+use crate::answer::Answer;
+use crate::case::{Case, Group};
+use crate::file::joined;
 use bound::{Bound, Dense, Ticks};
-use checks::{bad_check, command_check, start_check, time_check};
+use checks::{Check, decide};
 use format::look_over;
 use model::Files;
 use report::Report;
 use std::io;
+use written::{bytes, end_after};
 
 // The zones of a list that are struck, by their marks.
 fn marks(struck: &[usize]) -> [bool; 512] {
     let mut marks = [false; 512];
     for zone in struck {
-        if *zone < 512 {
-            marks[*zone] = true;
+        if let Some(mark) = marks.get_mut(*zone) {
+            *mark = true;
         }
     }
     marks
@@ -22,12 +23,7 @@ fn marks(struck: &[usize]) -> [bool; 512] {
 
 // The answer to one check in one kind of time.
 fn answer<B: Bound>(files: &Files, check: Check, struck: &[bool; 512], area: &mut [B]) -> Answer {
-    match check {
-        Check::Start => covered(start_check::<B>(files, struck)),
-        Check::Bad(zone, record) => held(bad_check(files, zone, record, area)),
-        Check::Time(zone) => covered(time_check(files, struck, zone, area)),
-        Check::Command(zone, command) => covered(command_check(files, struck, zone, command, area)),
-    }
+    Answer(check, decide(files, struck, check, area))
 }
 
 // Where cases are run: what prints, and a work area of each kind.
@@ -74,10 +70,10 @@ impl<'a> Bench<'a> {
     // The lines of the cases of two files, given by their words without the ends.
     pub fn show_files(&mut self, model: &[u32], zones: &[u32], cases: &[Case]) -> io::Result<()> {
         let heap = self.rt.alloc();
-        let model = bytes(heap, model)?;
-        let zones = bytes(heap, zones)?;
+        let model = bytes(heap, model, end_after(model.len()))?;
+        let zones = bytes(heap, zones, end_after(zones.len()))?;
         if let Err(fault) = look_over(&model, &zones) {
-            self.show_fault(Report::of(fault), cases)?;
+            self.show_fault(Report::from(fault), cases)?;
         }
         self.show_cases(&Files::new(&model, &zones), cases)
     }

@@ -1,13 +1,6 @@
 // What is asked, and of which files.
 
-// One of the four checks: Bad(zone, record), Time(zone), Command(zone, command).
-#[derive(Clone, Copy)]
-pub enum Check {
-    Start,
-    Bad(usize, usize),
-    Time(usize),
-    Command(usize, usize),
-}
+use checks::Check;
 
 // A name, a check, and the zones that are struck.
 #[derive(Clone, Copy)]

@@ -1,7 +1,7 @@
 // The command check: what may fire, and with which Booleans after it.
-use crate::case::Check::Command;
 use crate::case::{Case, Group};
 use crate::words::*;
+use checks::Check::Command;
 
 const GROUPS: &[Group] = &[
     // Conditions: h; not h; h and not h. Nothing changes.

@@ -1,9 +1,9 @@
 // As many zones, records and atoms as there may be, made by repeating. What decides comes last.
 use crate::bench::Bench;
 use crate::case::Case;
-use crate::case::Check::{Bad, Command, Start, Time};
 use crate::file::joined;
 use crate::words::*;
+use checks::Check::{Bad, Command, Start, Time};
 use std::alloc::{AllocError, Global};
 use std::io;
 

@@ -1,7 +1,7 @@
 // What the checks refuse, and in which order: a short work area, then a zone, then a record that is not there.
-use crate::case::Check::{Bad, Command, Start, Time};
 use crate::case::{Case, Group};
 use crate::words::*;
+use checks::Check::{Bad, Command, Start, Time};
 
 // One command, one bad record, one zone.
 const MODEL: &[&[u32]] = &[

@@ -1,7 +1,7 @@
 // The command check: clocks that are reset, beside clocks that run on.
-use crate::case::Check::Command;
 use crate::case::{Case, Group};
 use crate::words::*;
+use checks::Check::Command;
 
 const GROUPS: &[Group] = &[
     Group {

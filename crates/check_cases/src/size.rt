@@ -1,7 +1,7 @@
 // The smallest model, a model of 24 Booleans, and models of 15 clocks.
-use crate::case::Check::{Bad, Command, Start, Time};
 use crate::case::{Case, Group};
 use crate::words::*;
+use checks::Check::{Bad, Command, Start, Time};
 
 // Heads: 24 Booleans and no clock; no Boolean and 15 clocks.
 const BOOLEANS: u32 = 0x1000_0018;

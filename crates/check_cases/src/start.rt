@@ -1,7 +1,7 @@
 // The start check: a zone holds the start's Booleans with all clocks 0.
-use crate::case::Check::Start;
 use crate::case::{Case, Group};
 use crate::words::*;
+use checks::Check::Start;
 
 const GROUPS: &[Group] = &[
     Group {

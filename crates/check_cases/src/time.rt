@@ -1,7 +1,7 @@
 // The time check: one zone holds every state that a wait reaches from a zone, a wait of 0 included.
-use crate::case::Check::Time;
 use crate::case::{Case, Group};
 use crate::words::*;
+use checks::Check::Time;
 
 const GROUPS: &[Group] = &[
     Group {

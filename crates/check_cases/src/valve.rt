@@ -1,7 +1,7 @@
 // The two-phase valve: its nine checks, and the same files after an edit.
-use crate::case::Check::{Bad, Command, Start, Time};
 use crate::case::{Case, Group};
 use crate::words::*;
+use checks::Check::{Bad, Command, Start, Time};
 
 // With h, x is at most 3; without it, at most 5.
 const SHORT_PHASE: &[u32] = &[INVARIANT, H, NIL, X_LE, N + 3];

@@ -1,5 +1,5 @@
 -- The atoms of passed files can be placed in every frame that the checks use. Assumes nothing.
-use Rattle.std.proofs.Common.{◌≡◌, ℕ, zero, suc, ◌<◌, ◌≤◌, eqb, List, [], ◌∷◌, pos, sym, subst, arith}
+use Rattle.std.proofs.Common.{◌≡◌, ℕ, zero, suc, ◌<◌, ◌≤◌, eqb, List, [], ◌∷◌, Some, None, Option, pos, sym, refl, subst, arith}
 use Rattle.std.specs.List.{AllByRecursion}
 use Rattle.std.proofs.ByRecursion.{All-weaker}
 use Rattle.std.proofs.lemmas.Int.{ints}
@@ -10,7 +10,9 @@ use Rattle.format.specs.Ranges.{AtomFits, GuardedFits, ResetFits, ZoneFits}
 use Rattle.checks.specs.Systems.{Frame, same, before, row_before, after, row_after, offset_after}
 use Rattle.checks.specs.Frames.{OffsetFits, Placeable}
 use Rattle.checks.specs.Pouring.{PlaceableRecord}
-use Rattle.checks.specs.Reaching.{PlaceableZone}
+use Rattle.checks.specs.Reaching.{PlaceableZone, PlaceableIn}
+use Rattle.dbm.specs.declared.table.Closed.{Closed}
+use Rattle.bound.specs.declared.kind.Bound.{Ghosts as Kind}
 
 -- a frame that has the clocks up to C in the first n rows, with offsets in their range
 pub record Roomy (C n : ℕ) (f : Frame) : Type 0 where
@@ -72,3 +74,8 @@ module _ (h : Head) (few : h.clocks ≤ 15) (n rows : ℕ) (f g : Frame) (roomy 
 
   pub fit_zones : (l r : List Zone) → l ≡ r → AllByRecursion (ZoneFits h) r → AllByRecursion (PlaceableZone f rows) l
   fit_zones l r same_zones fits = subst (λ (q : Frame). AllByRecursion (PlaceableZone q rows) l) (sym same_frame) (subst (λ (k : ℕ). AllByRecursion (PlaceableZone g k) l) (sym same_rows) (subst (λ (q : List Zone). AllByRecursion (PlaceableZone g n) q) (sym same_zones) (All-weaker (ZoneFits h) (PlaceableZone g n) (λ y fit. placeable_atoms h few n g roomy y.atoms fit.atoms.each) r fits)))
+
+  -- whatever closing answers
+  pub fit_closed : {B : Type 0} {kind : Kind B} (o : Option (Closed B kind)) → ((t : Closed B kind) → o ≡ Some t → t.square.n ≡ rows) → (l r : List Zone) → l ≡ r → AllByRecursion (ZoneFits h) r → PlaceableIn o f l
+  fit_closed {kind = kind} (Some t) same_closed l r same_zones fits = subst (λ (k : ℕ). AllByRecursion (PlaceableZone f k) l) (sym (same_closed t refl)) (fit_zones l r same_zones fits)
+  fit_closed {kind = kind} None same_closed l r same_zones fits = tt

@@ -1,20 +1,32 @@
 -- The frames of the code, one write after another. Assumes nothing.
-use Rattle.std.proofs.Common.{◌≡◌, ℕ, zero, suc, ◌/◌, ◌%◌, ◌<◌, ◌≤◌, true, false, cond, eqb, List, [], ◌∷◌, length, get_or, set, ℤ, pos, sym, refl, ap, ◌∙◌, subst, ⊎_elim, arith}
+use Rattle.std.proofs.Common.{◌≡◌, ℕ, zero, suc, ◌+◌, ◌/◌, ◌%◌, ◌<◌, ◌≤◌, true, false, cond, eqb, List, [], ◌∷◌, length, get_or, set, ℤ, pos, sym, refl, ap, ◌∙◌, subst, ⊎_elim, arith}
 use Rattle.std.specs.List.{AllByRecursion}
-use Rattle.std.proofs.lemmas.List.{get_or-set_same, get_or-set_other}
+use Rattle.std.proofs.lemmas.List.{get_or_past, get_or-set_same, get_or-set_other}
 use Rattle.std.proofs.ByRecursion.{All-weaker}
-use Rattle.std.proofs.lemmas.Bool.{cases_eq, cases_Bool, eq-eqb, ne_eqb}
+use Rattle.std.proofs.lemmas.Bool.{cases_lt, cases_eq, cases_Bool, eq-eqb, ne_eqb}
+use Rattle.format.specs.Words.{value}
 use Rattle.format.specs.Syntax.{Reset, resets_from}
 use Rattle.checks.specs.Systems.{Frame, same, before, row_before, after, row_after, offset_after}
-use Rattle.checks.specs.Frames.{shape, Written}
+use Rattle.checks.specs.Frames.{spot_of, shape, Written}
 use Rattle.checks.specs.declared.frame.Frame.{Frame as FrameCode}
+use Rattle.checks.specs.declared.frame.Spot.{Spot}
+
+-- each clock in its own row
+pub shape_same : (f : FrameCode) → length f.spots ≡ 16 → ((i : ℕ) (e : Spot) → i < 16 → get_or f.spots i e ≡ record { row = i; offset = pos 0 }) → shape f ≡ same
+shape_same f long each = λ t. record { row = λ i. (spot i t).row; offset = λ i. (spot i t).offset } where
+  spot : (i : ℕ) → spot_of f i ≡ record { row = i; offset = pos 0 }
+  spot i = ⊎_elim (each i _) (λ past. get_or_past f.spots i _ (omega (arith, long))) (cases_lt i 16)
 
 -- before a delay: the first row is written
-pub shape_before : (rows : List ℕ) (offsets : List ℤ) (second : ℕ) → shape (record { rows = rows; offsets = offsets }) ≡ same → 0 < length rows → shape (record { rows = set rows 0 second; offsets = offsets }) ≡ before second
-shape_before rows offsets second e some = λ t. record { row = λ i. each i t; offset = λ i. ap (λ (f : Frame). f.offset i) e t } where
-  each : (i : ℕ) → get_or (set rows 0 second) i i ≡ row_before second i
-  each zero = get_or-set_same rows 0 second 0 some
-  each (suc i) = get_or-set_other rows 0 (suc i) second (suc i) (λ h. omega arith) ∙ ap (λ (f : Frame). f.row (suc i)) e
+pub shape_before : (f : FrameCode) (first : Spot) (second : ℕ) → shape f ≡ same → 0 < length f.spots → first.row ≡ second → first.offset ≡ pos 0 → shape (record { spots = set f.spots 0 first }) ≡ before second
+shape_before f first second e some row_is offset_is = λ t. record { row = λ i. row i t; offset = λ i. offset i t } where
+  row : (i : ℕ) → (spot_of (record { spots = set f.spots 0 first }) i).row ≡ row_before second i
+  row zero = ap (λ (s : Spot). s.row) (get_or-set_same f.spots 0 first _ some) ∙ row_is
+  row (suc i) = ap (λ (s : Spot). s.row) (get_or-set_other f.spots 0 (suc i) first _ (λ h. omega arith)) ∙ ap (λ (q : Frame). q.row (suc i)) e
+
+  offset : (i : ℕ) → (spot_of (record { spots = set f.spots 0 first }) i).offset ≡ pos 0
+  offset zero = ap (λ (s : Spot). s.offset) (get_or-set_same f.spots 0 first _ some) ∙ offset_is
+  offset (suc i) = ap (λ (s : Spot). s.offset) (get_or-set_other f.spots 0 (suc i) first _ (λ h. omega arith)) ∙ ap (λ (q : Frame). q.offset (suc i)) e
 
 -- ---- resets, one after another
 
@@ -61,6 +73,31 @@ resets_higher (suc bits) clock mask (n ∷ ns) =
     ⊎_elim
     (λ t. let odd : eqb (mask % 2) 1 ≡ true = t in rw odd (omega arith, All-weaker _ _ (λ q h. omega arith) _ (resets_higher bits (suc clock) (mask / 2) ns)))
     (λ f. let even : eqb (mask % 2) 1 ≡ false = f in rw even (All-weaker _ _ (λ q h. omega arith) _ (resets_higher bits (suc clock) (mask / 2) (n ∷ ns))))
+    (cases_Bool (eqb (mask % 2) 1))
+
+-- the first of some resets is of a clock within the bits, and the others are of higher clocks
+pub record Rises (bits clock : ℕ) (r : Reset) (rest : List Reset) : Type 0 where
+  pub some : 0 < bits
+  pub known : r.clock < clock + bits
+  pub higher : AllByRecursion (λ q. r.clock < q.clock) rest
+
+pub resets_rise : (bits clock mask : ℕ) (ns : List ℕ) (r : Reset) (rest : List Reset) → resets_from bits clock mask ns ≡ r ∷ rest → Rises bits clock r rest
+unfolding resets_from
+resets_rise zero clock mask ns r rest e = let z : ◌≡◌ {A = ℕ} 0 1 = cc in absurd (omega arith)
+resets_rise (suc bits) clock mask [] r rest e = let z : ◌≡◌ {A = ℕ} 0 1 = cc in absurd (omega arith)
+resets_rise (suc bits) clock mask (n ∷ ns) r rest e =
+    ⊎_elim
+    (λ t.
+    let odd : eqb (mask % 2) 1 ≡ true = t in
+    let split : record { clock = clock; number = value n } ∷ resets_from bits (suc clock) (mask / 2) ns ≡ r ∷ rest = rw odd at e in
+    let first : record { clock = clock; number = value n } ≡ r = cc in
+    let others : resets_from bits (suc clock) (mask / 2) ns ≡ rest = cc in
+    let here : clock ≡ r.clock = ap (λ (q : Reset). q.clock) first in
+    record { some = omega arith; known = omega (arith, here); higher = All-weaker _ _ (λ q h. omega (arith, here)) _ (subst (AllByRecursion (λ q. suc clock ≤ q.clock)) others (resets_higher bits (suc clock) (mask / 2) ns)) })
+    (λ f.
+    let even : eqb (mask % 2) 1 ≡ false = f in
+    let later = resets_rise bits (suc clock) (mask / 2) (n ∷ ns) r rest (rw even at e) in
+    record { some = omega arith; known = omega (arith, later.known); higher = later.higher })
     (cases_Bool (eqb (mask % 2) 1))
 
 -- a frame, while the resets of a list are written into it: those that are left, over what is written, make the whole

@@ -2,20 +2,14 @@
 use Rattle.std.specs.Prelude.{◌≡◌, ℕ, ◌≤◌, Bool, cond, List, Some, None, Decides, Option, nat_le}
 use Rattle.std.specs.List.{slice_get}
 use Rattle.format.specs.Syntax.{Guarded, Command, Zone}
-use Rattle.format.specs.LookOver.{look_over_answer}
-use Rattle.model.specs.Passing.{passes}
 use Rattle.model.specs.Views.{zone_in}
 use Rattle.model.specs.Files.{model_in, zones_in}
 use Rattle.model.specs.declared.files.Files.{Files}
-use Rattle.model.specs.declared.views.Zone.{Zone as ZonePart}
+use Rattle.checks.specs.Passed.{pass_over}
 use Rattle.checks.specs.Meanings.{HoldsStart, BadCheck, CoversTime, CoversCommand, Names}
-use Rattle.checks.specs.Passed.{Ranged}
+use Rattle.checks.specs.declared.origin.Origin.{Origin}
 use Rattle.checks.specs.declared.calls.Refusal.{Refusal}
 use Rattle.checks.specs.declared.calls.Refusal.TheVariants.{NotPassed, ShortArea, NoSuchZone, NoSuchRecord}
-
--- the look-over passes the two files
-abbrev pub pass_over : Files → Bool
-pass_over p = passes (look_over_answer p.model.now p.zones.now)
 
 -- there is none, and that is refused
 abbrev pub missing : {X : Type 0} → Option X → Refusal → Option Refusal
@@ -59,9 +53,9 @@ module _ (admits : ℕ → Type 0) (p : Files) where
     abbrev pub CommandAnswer : ℕ → ℕ → Option ℕ → Type 0
     CommandAnswer n k answer = (z : Zone) (c : Command) → slice_get (zones_in p) n ≡ Some z → slice_get (model_in p).commands k ≡ Some c → Names (CoversCommand admits (model_in p) z c) struck (zones_in p) answer
 
--- a check of zone n in an area of so many bounds is not refused, and z is the zone
-pub record Asked (p : Files) (area n : ℕ) (z : ZonePart) : Type 0 where
+-- a check of zone n in an area of so many bounds is not refused, and starts there
+pub record Asked (p : Files) (area n : ℕ) (o : Origin) : Type 0 where
   pub unrefused : refused_zone p area n ≡ None
-  pub listed : slice_get (zones_in p) n ≡ Some (zone_in z)
   pub enough : 578 ≤ area
-  pub ranged : Ranged p
+  pub files : o.files.now ≡ p
+  pub listed : slice_get (zones_in p) n ≡ Some (zone_in o.zone)

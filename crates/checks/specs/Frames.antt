@@ -4,10 +4,15 @@ use Rattle.format.specs.Places.{least_number, greatest_number}
 use Rattle.format.specs.Syntax.{Atom, Reset}
 use Rattle.checks.specs.Systems.{Frame}
 use Rattle.checks.specs.declared.frame.Frame.{Frame as FrameCode}
+use Rattle.checks.specs.declared.frame.Spot.{Spot}
 
--- the frame that two arrays say; past their end every clock is in its own row
+-- where a clock is; past the end of the array it is in its own row
+abbrev pub spot_of : FrameCode → ℕ → Spot
+spot_of f i = slice_index_or f.spots i (record { row = i; offset = pos 0 })
+
+-- the frame that an array says
 abbrev pub shape : FrameCode → Frame
-shape f = record { row = λ i. slice_index_or f.rows i i; offset = λ i. slice_index_or f.offsets i (pos 0) }
+shape f = record { row = λ i. (spot_of f i).row; offset = λ i. (spot_of f i).offset }
 
 -- an atom as the table has it: the rows of its clocks, and its number less the offset of i and plus that of j
 abbrev pub place : Frame → Atom → Atom

@@ -1,7 +1,9 @@
 pub mod Meanings
+pub mod Finding
 pub mod Systems
 pub mod Frames
 pub mod Pouring
 pub mod Reaching
 pub mod Passed
 pub mod Calls
+pub mod Decisions

@@ -27,6 +27,13 @@ pub record Unstruck (struck : List Bool) (l : List Zone) (n : ℕ) (y : Zone) : 
   pub listed : slice_get l n ≡ Some y
   pub unstruck : slice_index_or struck n false ≡ false
 
+-- some unstruck zone has P
+pub record SomeUnstruck (P : Zone → Type 0) (struck : List Bool) (l : List Zone) : Type 0 where
+  pub number : ℕ
+  pub zone : Zone
+  pub is_unstruck : Unstruck struck l number zone
+  pub has : P zone
+
 -- n is the lowest number of an unstruck zone with P
 pub record Lowest (P : Zone → Type 0) (struck : List Bool) (l : List Zone) (n : ℕ) : Type 0 where
   pub zone : Zone

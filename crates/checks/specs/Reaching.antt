@@ -1,12 +1,10 @@
 -- What a step reaches, and which zones hold it. Assumes nothing.
-use Rattle.std.specs.Prelude.{◌≡◌, ℕ, ℤ, pos}
+use Rattle.std.specs.Prelude.{◌≡◌, ℕ, List, ℤ, pos, Some, None, Option}
 use Rattle.std.specs.List.{AllByRecursion}
-use Rattle.bound.specs.Time.{Meaning, Made}
-use Rattle.dbm.specs.Table.{Solution}
-use Rattle.dbm.specs.Calls.{Done, Solves, bound_at}
-use Rattle.dbm.specs.declared.table.Table.{Table}
-use Rattle.dbm.specs.declared.close.Consistency.{Consistency}
-use Rattle.dbm.specs.declared.close.Consistency.TheVariants.{Consistent, Inconsistent}
+use Rattle.bound.specs.Time.{Made}
+use Rattle.bound.specs.declared.kind.Bound.{Ghosts as Kind}
+use Rattle.dbm.specs.Calls.{SolvesClosed}
+use Rattle.dbm.specs.declared.table.Closed.{Closed}
 use Rattle.format.specs.Syntax.{Atom, Zone}
 use Rattle.checks.specs.Systems.{Frame, PlacedIn}
 use Rattle.checks.specs.Frames.{Placeable}
@@ -23,27 +21,18 @@ HoldsZero b y = (b ≡ y.booleans) × AllByRecursion AtZero y.atoms
 abbrev pub PlaceableZone : Frame → ℕ → Zone → Type 0
 PlaceableZone f n y = AllByRecursion (Placeable f n) y.atoms
 
-module _ {B : Type 0} (admits : ℕ → Type 0) (allows : B → Meaning) (size : B → ℕ) (none : B) where
-  -- the zone holds all states that the solutions of a table show in a frame, with these Booleans
-  abbrev pub HoldsAll : Table B → Frame → ℕ → Zone → Type 0
-  HoldsAll t f b y = (k : ℕ) (ν : ℕ → ℤ) → admits k → Solves admits allows size none t k ν → PlacedIn f k ν b y
+-- the zone holds all states that the solutions of a closed table show in a frame, with these Booleans
+abbrev pub HoldsAll : {B : Type 0} {kind : Kind B} → Closed B kind → Frame → ℕ → Zone → Type 0
+HoldsAll {B} {kind} t f b y = (k : ℕ) (ν : ℕ → ℤ) → kind.admits k → SolvesClosed t k ν → PlacedIn f k ν b y
 
-  -- the table is done and has a solution
-  pub record Solved (t : Table B) : Type 0 where
-    pub is_done : Done admits allows size none t
-    pub some : Solution admits allows (bound_at admits allows size none t) t.n
+-- ---- by what closing answered
 
-  -- what has to be known so that it can be told whether the zone holds them
-  abbrev pub Ready : Table B → Frame → Zone → Type 0
-  Ready t f y = Solved t × PlaceableZone f t.n y
+-- the zone holds all that is shown in a frame, with these Booleans: anything, where the table has no solution
+abbrev pub Covered : {B : Type 0} {kind : Kind B} → Option (Closed B kind) → Frame → ℕ → Zone → Type 0
+Covered (Some t) f b y = HoldsAll t f b y
+Covered None f b y = Unit {0}
 
-  -- ---- by what closing answered
-
-  -- the zone holds all that the closed table shows in a frame, with these Booleans: anything, where it shows nothing
-  abbrev pub Covered : Consistency → Table B → Frame → ℕ → Zone → Type 0
-  Covered Consistent t f b y = HoldsAll t f b y
-  Covered Inconsistent t f b y = Unit {0}
-
-  abbrev pub Told : Consistency → Table B → Type 0
-  Told Consistent t = Solved t
-  Told Inconsistent t = Unit {0}
+-- where there is a closed table, every atom of the zones can be placed in it
+abbrev pub PlaceableIn : {B : Type 0} {kind : Kind B} → Option (Closed B kind) → Frame → List Zone → Type 0
+PlaceableIn (Some t) f l = AllByRecursion (PlaceableZone f t.square.n) l
+PlaceableIn None f l = Unit {0}

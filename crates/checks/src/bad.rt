@@ -1,35 +1,33 @@
 // The bad check.
 ghost use Rattle.std.specs.Prelude.{◌≤◌, length, Decides};
-ghost use Rattle.format.specs.Ranges.{GuardedFits, ZoneFits};
+ghost use Rattle.format.specs.Ranges.{GuardedFits};
 ghost use Rattle.model.specs.Views.{guarded_in, zone_in};
 ghost use Rattle.model.specs.Files.{model_in};
 ghost use Rattle.checks.specs.Meanings.{BadCheck};
-ghost use Rattle.checks.specs.Passed.{Ranged, head_in};
+ghost use Rattle.checks.specs.Passed.{head_in};
 
+use crate::area::table_in;
 use crate::frame::Frame;
-use crate::pour::{begin, pour};
+use crate::origin::Origin;
+use crate::pour::pour;
 use bound::Bound;
-use dbm::Consistency;
-use model::{Files, Guarded, Zone};
+use model::Guarded;
 
-// Whether no state of a zone meets a bad record.
-pub(crate) fn none_meets<B: Bound>(files: &Files, zone: Zone, bad: Guarded, area: &mut [B]) -> bool
-    requires passed { Ranged files.now }
-    requires zone_fits { ZoneFits (head_in files.now) (zone_in zone) }
-    requires bad_fits { GuardedFits (head_in files.now) (guarded_in bad) }
-    requires enough { 578 ≤ length area.old }
-    ensures { Decides result (BadCheck B.admits (model_in files.now) (zone_in zone.entry) (guarded_in bad.entry)) }
-{
-    if !bad.condition().holds(zone.booleans()) {
-        return true;
-    }
-    let mut table = begin(area, files.clocks() + 1);
-    let frame = Frame::same();
-    pour(&mut table, &frame, zone.atoms());
-    pour(&mut table, &frame, bad.atoms());
-    let (answer, _) = table.close();
-    match answer {
-        Consistency::Inconsistent => true,
-        Consistency::Consistent => false,
+impl Origin<'_, '_> {
+    // Whether no state of the zone meets a bad record.
+    pub(crate) fn none_meets<B: Bound>(self, bad: Guarded, area: &mut [B]) -> bool
+        requires enough { 578 ≤ length area.old }
+        requires fits { GuardedFits (head_in self.files.now) (guarded_in bad) }
+        ensures { Decides result (BadCheck B.admits (model_in self.entry.files.now) (zone_in self.entry.zone) (guarded_in bad.entry)) }
+    {
+        let Origin { files, zone } = self;
+        if !bad.condition().holds(zone.booleans()) {
+            return true;
+        }
+        let frame = Frame::same();
+        let mut table = table_in(area, files.clocks() + 1);
+        pour(&mut table, &frame, zone.atoms());
+        pour(&mut table, &frame, bad.atoms());
+        table.close().is_none()
     }
 }

@@ -5,13 +5,20 @@ ghost use Rattle.model.specs.Views.{atom_is, resets_in};
 ghost use Rattle.checks.specs.Systems.{same as same_frame, before as before_frame, after as AfterFrame};
 ghost use Rattle.checks.specs.Frames.{shape, place, OffsetFits, Placeable, Written};
 
-use model::{Atom, Resets};
+use model::{Atom, Reset, Resets};
+use std::array;
 
-// Clock i is the value of a row plus an offset, less the value of clock 0's row.
+// Where a clock is: the value of a row plus an offset, less the value of clock 0's row.
+#[derive(Clone, Copy)]
+pub(crate) struct Spot {
+    pub(crate) row: usize,
+    pub(crate) offset: i32,
+}
+
+// Where clock 0 and each of at most 15 clocks are.
 #[derive(Clone, Copy)]
 pub(crate) struct Frame {
-    pub(crate) rows: [usize; 16],
-    pub(crate) offsets: [i32; 16],
+    pub(crate) spots: [Spot; 16],
 }
 
 // An atom's number, less the offset of its first clock and plus that of its second: within two million either way.
@@ -31,8 +38,7 @@ impl Frame {
         ensures { shape result ≡ same_frame }
     {
         Frame {
-            rows: [0, 1, 2, 3, 4, 5, 6, 7, 8, 9, 10, 11, 12, 13, 14, 15],
-            offsets: [0; 16],
+            spots: array::from_fn(|row| Spot { row, offset: 0 }),
         }
     }
 
@@ -41,17 +47,19 @@ impl Frame {
         ensures { shape result ≡ before_frame second }
     {
         let mut frame = Frame::same();
-        frame.rows[0] = second;
+        frame.spots[0].row = second;
         frame
     }
 
-    // One clock gets a number: it is in the row of zero, with its number as offset.
-    fn reset(&mut self, clock: usize, number: i32)
-        requires { clock < 16 }
-        ensures { Written self.old (record { clock = clock; number = number }) self.new }
+    // A clock gets a number: it is in the row of zero, with its number as offset.
+    fn reset(&mut self, reset: Reset)
+        requires { reset.clock < 16 }
+        ensures { Written self.old (record { clock = reset.clock; number = reset.number }) self.new }
     {
-        self.rows[clock] = 0;
-        self.offsets[clock] = number;
+        self.spots[reset.clock] = Spot {
+            row: 0,
+            offset: reset.number,
+        };
     }
 
     // After some resets: a reset clock in the row of zero, with its number as offset.
@@ -59,10 +67,8 @@ impl Frame {
         ensures { shape result ≡ AfterFrame (resets_in resets.entry) }
     {
         let mut frame = Frame::same();
-        let mut rest = resets;
-        while let Some((reset, more)) = rest.split_first() {
-            frame.reset(reset.clock, reset.number);
-            rest = more;
+        for reset in resets {
+            frame.reset(reset);
         }
         frame
     }
@@ -72,10 +78,12 @@ impl Frame {
         requires { (n : ℕ) × Placeable (shape self.now) n (atom_is atom) }
         ensures { atom_is result ≡ place (shape self.now) (atom_is atom) }
     {
+        let first = self.spots[atom.i];
+        let second = self.spots[atom.j];
         Atom {
-            i: self.rows[atom.i],
-            j: self.rows[atom.j],
-            d: shifted(atom.d, self.offsets[atom.i], self.offsets[atom.j]),
+            i: first.row,
+            j: second.row,
+            d: shifted(atom.d, first.offset, second.offset),
             strict: atom.strict,
         }
     }

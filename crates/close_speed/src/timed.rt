@@ -1,35 +1,35 @@
 // Tables built, and built and closed, many times over.
-use bound::Bound;
-use dbm::{Consistency, Table};
+use bound::{Atom, Bound};
+use dbm::Table;
 use std::io;
 use std::time::Instant;
 
 // Builds a table of n rows in this memory, with a bound on every difference of two clocks, and closes it if asked. All
 // bounds are above 0, so that equal clocks keep them. The answer is false where the memory is too short, or the table
-// inconsistent.
+// inconsistent. Not inlined, so that where its loops lie in the code does not hang on the loop that times it.
+#[inline(never)]
 fn made<B: Bound>(memory: &mut [B], n: usize, closing: bool) -> bool {
     let Some(mut t) = Table::new(memory, n) else {
         return false;
     };
     let mut row: i32 = 1000;
+    // By index, since an atom is made of the two numbers.
     for i in 0..n {
         let mut d = row;
         for j in 0..n {
             if i != j {
-                t.constrain(i, j, d, false);
+                t.constrain(Atom {
+                    i,
+                    j,
+                    d,
+                    strict: false,
+                });
             }
             d = d.wrapping_add(3);
         }
         row = row.wrapping_add(7);
     }
-    if !closing {
-        return true;
-    }
-    let (answer, _) = t.close();
-    match answer {
-        Consistency::Consistent => true,
-        Consistency::Inconsistent => false,
-    }
+    !closing || t.close().is_some()
 }
 
 // The microseconds that so many tables take.

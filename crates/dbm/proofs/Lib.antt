@@ -5,4 +5,3 @@ pub mod Pivot
 pub mod Tight
 pub mod Turns
 pub mod Places
-pub mod Tables

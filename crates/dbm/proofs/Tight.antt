@@ -4,7 +4,8 @@ use lib.IntN.{zero-*ℤ}
 use borrow.Author.Tests.{apart_eqb, eqb-false}
 use Rattle.std.proofs.lemmas.Int.{ints, by_lt_z}
 use Rattle.bound.specs.Integers.{times_sum, times_neg, times_times, times_mono, times_one}
-use Rattle.bound.specs.Time.{Meaning, Splits}
+use Rattle.bound.specs.Time.{Splits}
+use Rattle.bound.specs.declared.kind.Bound.{Ghosts as Kind}
 use Rattle.dbm.specs.Table.{Closed}
 use Rattle.dbm.proofs.Laws.{Laws}
 use Rattle.dbm.proofs.Line.{◌∈◌, here, there, nowhere, only, joined, Between, highest, room}
@@ -26,10 +27,10 @@ seek n (a ∷ s) = seek_step n a s (eqb n a) refl (seek n s)
 abbrev pub put : ℕ → ℤ → (ℕ → ℤ) → ℕ → ℤ
 put n x ν a = cond (eqb a n) x (ν a)
 
-module _ {Bound : Type 0} (admits : ℕ → Type 0) (allows : Bound → Meaning) (laws : Laws admits allows) (D : ℕ → ℕ → Bound) (size : ℕ) where
+module _ {Bound : Type 0} (kind : Kind Bound) (laws : Laws kind.admits kind.allows) (D : ℕ → ℕ → Bound) (size : ℕ) where
   pub record Keeps (s : List ℕ) (k : ℕ) (ν : ℕ → ℤ) : Type 0 where
     pub within : (a : ℕ) → ◌∈◌ a s → a < size
-    pub each : (a b : ℕ) → ◌∈◌ a s → ◌∈◌ b s → allows (D a b) k (ν a -ℤ ν b)
+    pub each : (a b : ℕ) → ◌∈◌ a s → ◌∈◌ b s → kind.allows (D a b) k (ν a -ℤ ν b)
 
   put_same : (n : ℕ) (x : ℤ) (ν : ℕ → ℤ) → put n x ν n ≡ x
   put_same n x ν = ap (λ (t : Bool). cond t x (ν n)) (eq-eqb n n refl)
@@ -43,7 +44,7 @@ module _ {Bound : Type 0} (admits : ℕ → Type 0) (allows : Bound → Meaning)
   -- one more variable
   pub record More (s : List ℕ) (n k : ℕ) (ν : ℕ → ℤ) : Type 0 where
     pub times : ℕ
-    pub scale : admits (k * times)
+    pub scale : kind.admits (k * times)
     pub at : ℤ
     pub keeps : Keeps (n ∷ s) (k * times) (put n at (scaled ν times))
 
@@ -59,26 +60,26 @@ module _ {Bound : Type 0} (admits : ℕ → Type 0) (allows : Bound → Meaning)
   apart : {n : ℕ} {us : List ℕ} (a : ℕ) → ◌∈◌ a us → (◌∈◌ n us → ⊥) → a ≡ n → ⊥
   apart {n} {us} a i fresh e = fresh (subst (λ (c : ℕ). ◌∈◌ c us) e i)
 
-  module _ (closed : Closed admits allows D size) where
+  module _ (closed : Closed kind D size) where
     -- what the table says of the old variables and of a new one
-    each_of : (us : List ℕ) (n k m : ℕ) (ν : ℕ → ℤ) (x : ℤ) → (ok : admits k) → admits (k * m) → n < size → (◌∈◌ n us → ⊥) → Keeps us k ν → Between admits allows laws k ok D n ν us us m x → (a b : ℕ) → ◌∈◌ a (n ∷ us) → ◌∈◌ b (n ∷ us) → allows (D a b) (k * m) (put n x (scaled ν m) a -ℤ put n x (scaled ν m) b)
+    each_of : (us : List ℕ) (n k m : ℕ) (ν : ℕ → ℤ) (x : ℤ) → (ok : kind.admits k) → kind.admits (k * m) → n < size → (◌∈◌ n us → ⊥) → Keeps us k ν → Between kind.admits kind.allows laws k ok D n ν us us m x → (a b : ℕ) → ◌∈◌ a (n ∷ us) → ◌∈◌ b (n ∷ us) → kind.allows (D a b) (k * m) (put n x (scaled ν m) a -ℤ put n x (scaled ν m) b)
     each_of us n k m ν x ok okm n_in fresh h w a b here here =
-        subst (allows (D n n) (k * m)) (sym (less_self (put n x (scaled ν m) n))) (closed.diagonal n n_in (k * m) okm)
+        subst (kind.allows (D n n) (k * m)) (sym (less_self (put n x (scaled ν m) n))) (closed.diagonal n n_in (k * m) okm)
     each_of us n k m ν x ok okm n_in fresh h w a b here (there j) =
         let e : x -ℤ ν b *ℤ pos m ≡ put n x (scaled ν m) n -ℤ put n x (scaled ν m) b = sym (cc2 (put_same n x (scaled ν m)) (put_other n x (scaled ν m) b (apart b j fresh))) in
-        subst (allows (D n b) (k * m)) e (w.low.each b j)
+        subst (kind.allows (D n b) (k * m)) e (w.low.each b j)
     each_of us n k m ν x ok okm n_in fresh h w a b (there i) here =
         let e : ν a *ℤ pos m -ℤ x ≡ put n x (scaled ν m) a -ℤ put n x (scaled ν m) n = sym (cc2 (put_other n x (scaled ν m) a (apart a i fresh)) (put_same n x (scaled ν m))) in
-        subst (allows (D a n) (k * m)) e (w.high.each a i)
+        subst (kind.allows (D a n) (k * m)) e (w.high.each a i)
     each_of us n k m ν x ok okm n_in fresh h w a b (there i) (there j) =
         let e : (ν a -ℤ ν b) *ℤ pos m ≡ put n x (scaled ν m) a -ℤ put n x (scaled ν m) b = spread (ν a) (ν b) m ∙ sym (cc2 (put_other n x (scaled ν m) a (apart a i fresh)) (put_other n x (scaled ν m) b (apart b j fresh))) in
-        subst (allows (D a b) (k * m)) e (laws.finer (D a b) k m (ν a -ℤ ν b) ok okm (h.each a b i j))
+        subst (kind.allows (D a b) (k * m)) e (laws.finer (D a b) k m (ν a -ℤ ν b) ok okm (h.each a b i j))
 
-    extend : (c : ℕ) (s : List ℕ) (n k : ℕ) (ν : ℕ → ℤ) → admits k → n < size → (◌∈◌ n (c ∷ s) → ⊥) → Keeps (c ∷ s) k ν → More (c ∷ s) n k ν
+    extend : (c : ℕ) (s : List ℕ) (n k : ℕ) (ν : ℕ → ℤ) → kind.admits k → n < size → (◌∈◌ n (c ∷ s) → ⊥) → Keeps (c ∷ s) k ν → More (c ∷ s) n k ν
     extend c s n k ν ok n_in fresh h =
         let us : List ℕ = c ∷ s in
-        let rooms : (a b : ℕ) → ◌∈◌ a us → ◌∈◌ b us → Splits admits (allows (D b n)) (allows (D n a)) k (ν b -ℤ ν a) = λ a b i j. closed.through b a n (h.within b j) (h.within a i) n_in k (ν b -ℤ ν a) ok (h.each b a j i) in
-        let p = highest admits allows laws k ok D n ν us c s rooms (λ b j. let q = room admits allows laws k ok D n ν b b (rooms b b j j) in record { times = q.times; scale = q.scale; at = q.at; fact = q.fact.high }) in
+        let rooms : (a b : ℕ) → ◌∈◌ a us → ◌∈◌ b us → Splits kind.admits (kind.allows (D b n)) (kind.allows (D n a)) k (ν b -ℤ ν a) = λ a b i j. closed.through b a n (h.within b j) (h.within a i) n_in k (ν b -ℤ ν a) ok (h.each b a j i) in
+        let p = highest kind.admits kind.allows laws k ok D n ν us c s rooms (λ b j. let q = room kind.admits kind.allows laws k ok D n ν b b (rooms b b j j) in record { times = q.times; scale = q.scale; at = q.at; fact = q.fact.high }) in
         record {
           times = p.times;
           scale = p.scale;
@@ -92,7 +93,7 @@ module _ {Bound : Type 0} (admits : ℕ → Type 0) (allows : Bound → Meaning)
     -- a solution on the variables of s, which i and j are among, at least as far apart as v
     pub record Part (i j k : ℕ) (v : ℤ) (s : List ℕ) : Type 0 where
       pub times : ℕ
-      pub scale : admits (k * times)
+      pub scale : kind.admits (k * times)
       pub value : ℕ → ℤ
       pub keeps : Keeps s (k * times) value
       pub i_in : ◌∈◌ i s
@@ -122,7 +123,7 @@ module _ {Bound : Type 0} (admits : ℕ → Type 0) (allows : Bound → Meaning)
           all = n ∷ c ∷ s;
           part = record {
             times = p.times * e.times;
-            scale = subst admits same e.scale;
+            scale = subst kind.admits same e.scale;
             value = put n e.at (scaled p.value e.times);
             keeps = subst (λ (q : ℕ). Keeps (n ∷ c ∷ s) q (put n e.at (scaled p.value e.times))) same e.keeps;
             i_in = there p.i_in;
@@ -155,9 +156,9 @@ module _ {Bound : Type 0} (admits : ℕ → Type 0) (allows : Bound → Meaning)
     -- a solution of the whole table, at least as far apart in i and j as v
     pub record Solution (i j k : ℕ) (v : ℤ) : Type 0 where
       pub times : ℕ
-      pub scale : admits (k * times)
+      pub scale : kind.admits (k * times)
       pub value : ℕ → ℤ
-      pub keeps : (a b : ℕ) → a < size → b < size → allows (D a b) (k * times) (value a -ℤ value b)
+      pub keeps : (a b : ℕ) → a < size → b < size → kind.allows (D a b) (k * times) (value a -ℤ value b)
       pub far : (v *ℤ pos times) ≤ℤ (value i -ℤ value j)
 
     whole : (i j k : ℕ) (v : ℤ) (s : List ℕ) → Part i j k v s → Solution i j k v
@@ -166,11 +167,11 @@ module _ {Bound : Type 0} (admits : ℕ → Type 0) (allows : Bound → Meaning)
         let q = u.part in
         record { times = q.times; scale = q.scale; value = q.value; keeps = λ a b la lb. q.keeps.each a b (u.has a la) (u.has b lb); far = q.far }
 
-    one_scale : (k : ℕ) → admits k → admits (k * 1)
-    one_scale k ok = subst admits (sym (mul-one k)) ok
+    one_scale : (k : ℕ) → kind.admits k → kind.admits (k * 1)
+    one_scale k ok = subst kind.admits (sym (mul-one k)) ok
 
     -- the diagonal
-    alone : (i k : ℕ) (v : ℤ) → i < size → admits k → allows (D i i) k v → Part i i k v (i ∷ [])
+    alone : (i k : ℕ) (v : ℤ) → i < size → kind.admits k → kind.allows (D i i) k v → Part i i k v (i ∷ [])
     alone i k v i_ok ok h =
         let flat = closed.flat i i_ok k v ok h in
         record {
@@ -179,7 +180,7 @@ module _ {Bound : Type 0} (admits : ℕ → Type 0) (allows : Bound → Meaning)
           value = λ a. pos 0;
           keeps = record {
             within = only i (λ a. a < size) i_ok;
-            each = λ a b p q. only i (λ c. allows (D c b) (k * 1) (pos 0 -ℤ pos 0)) (only i (λ c. allows (D i c) (k * 1) (pos 0 -ℤ pos 0)) (closed.diagonal i i_ok (k * 1) (one_scale k ok)) b q) a p;
+            each = λ a b p q. only i (λ c. kind.allows (D c b) (k * 1) (pos 0 -ℤ pos 0)) (only i (λ c. kind.allows (D i c) (k * 1) (pos 0 -ℤ pos 0)) (closed.diagonal i i_ok (k * 1) (one_scale k ok)) b q) a p;
           };
           i_in = here;
           j_in = here;
@@ -187,29 +188,29 @@ module _ {Bound : Type 0} (admits : ℕ → Type 0) (allows : Bound → Meaning)
         }
 
     -- i at t, j at 0
-    pair_at : (i j k m : ℕ) (v t : ℤ) → i < size → j < size → (j ≡ i → ⊥) → admits (k * m) → allows (D i j) (k * m) t → allows (D j i) (k * m) (neg_ℤ t) → (v *ℤ pos m) ≤ℤ t → Part i j k v (i ∷ j ∷ [])
+    pair_at : (i j k m : ℕ) (v t : ℤ) → i < size → j < size → (j ≡ i → ⊥) → kind.admits (k * m) → kind.allows (D i j) (k * m) t → kind.allows (D j i) (k * m) (neg_ℤ t) → (v *ℤ pos m) ≤ℤ t → Part i j k v (i ∷ j ∷ [])
     pair_at i j k m v t i_ok j_ok ne okm forth back far =
         let ν : ℕ → ℤ = put i t (λ (a : ℕ). pos 0) in
         let at_i : ν i ≡ t = put_same i t (λ (a : ℕ). pos 0) in
         let at_j : ν j ≡ pos 0 = put_other i t (λ (a : ℕ). pos 0) j ne in
         let ij : t ≡ ν i -ℤ ν j = (let e : t ≡ t -ℤ pos 0 = omega (arith, ints) in e) ∙ sym (cc2 at_i at_j) in
         let ji : neg_ℤ t ≡ ν j -ℤ ν i = (let e : neg_ℤ t ≡ pos 0 -ℤ t = omega (arith, ints) in e) ∙ sym (cc2 at_j at_i) in
-        let from_i : (b : ℕ) → ◌∈◌ b (i ∷ j ∷ []) → allows (D i b) (k * m) (ν i -ℤ ν b) = joined i (j ∷ []) (λ b. allows (D i b) (k * m) (ν i -ℤ ν b)) (subst (allows (D i i) (k * m)) (sym (less_self (ν i))) (closed.diagonal i i_ok (k * m) okm)) (only j (λ b. allows (D i b) (k * m) (ν i -ℤ ν b)) (subst (allows (D i j) (k * m)) ij forth)) in
-        let from_j : (b : ℕ) → ◌∈◌ b (i ∷ j ∷ []) → allows (D j b) (k * m) (ν j -ℤ ν b) = joined i (j ∷ []) (λ b. allows (D j b) (k * m) (ν j -ℤ ν b)) (subst (allows (D j i) (k * m)) ji back) (only j (λ b. allows (D j b) (k * m) (ν j -ℤ ν b)) (subst (allows (D j j) (k * m)) (sym (less_self (ν j))) (closed.diagonal j j_ok (k * m) okm))) in
+        let from_i : (b : ℕ) → ◌∈◌ b (i ∷ j ∷ []) → kind.allows (D i b) (k * m) (ν i -ℤ ν b) = joined i (j ∷ []) (λ b. kind.allows (D i b) (k * m) (ν i -ℤ ν b)) (subst (kind.allows (D i i) (k * m)) (sym (less_self (ν i))) (closed.diagonal i i_ok (k * m) okm)) (only j (λ b. kind.allows (D i b) (k * m) (ν i -ℤ ν b)) (subst (kind.allows (D i j) (k * m)) ij forth)) in
+        let from_j : (b : ℕ) → ◌∈◌ b (i ∷ j ∷ []) → kind.allows (D j b) (k * m) (ν j -ℤ ν b) = joined i (j ∷ []) (λ b. kind.allows (D j b) (k * m) (ν j -ℤ ν b)) (subst (kind.allows (D j i) (k * m)) ji back) (only j (λ b. kind.allows (D j b) (k * m) (ν j -ℤ ν b)) (subst (kind.allows (D j j) (k * m)) (sym (less_self (ν j))) (closed.diagonal j j_ok (k * m) okm))) in
         record {
           times = m;
           scale = okm;
           value = ν;
           keeps = record {
             within = joined i (j ∷ []) (λ a. a < size) i_ok (only j (λ a. a < size) j_ok);
-            each = λ a b p q. joined i (j ∷ []) (λ c. allows (D c b) (k * m) (ν c -ℤ ν b)) (from_i b q) (only j (λ c. allows (D c b) (k * m) (ν c -ℤ ν b)) (from_j b q)) a p;
+            each = λ a b p q. joined i (j ∷ []) (λ c. kind.allows (D c b) (k * m) (ν c -ℤ ν b)) (from_i b q) (only j (λ c. kind.allows (D c b) (k * m) (ν c -ℤ ν b)) (from_j b q)) a p;
           };
           i_in = here;
           j_in = there here;
           far = subst (λ (z : ℤ). (v *ℤ pos m) ≤ℤ z) ij far;
         }
 
-    pair : (i j k : ℕ) (v : ℤ) → i < size → j < size → (j ≡ i → ⊥) → admits k → allows (D i j) k v → Part i j k v (i ∷ j ∷ [])
+    pair : (i j k : ℕ) (v : ℤ) → i < size → j < size → (j ≡ i → ⊥) → kind.admits k → kind.allows (D i j) k v → Part i j k v (i ∷ j ∷ [])
     pair i j k v i_ok j_ok ne ok h =
         let c = closed.through i i j i_ok i_ok j_ok k (pos 0) ok (closed.diagonal i i_ok k ok) in
         let m = c.times in
@@ -219,11 +220,11 @@ module _ {Bound : Type 0} (admits : ℕ → Type 0) (allows : Bound → Meaning)
         (λ less. pair_at i j k m v (v *ℤ pos m) i_ok j_ok ne c.scale vm_in (laws.lower (D j i) (k * m) _ _ c.scale c.second_in (omega (arith, ints))) (omega (arith, ints)))
         (λ more. pair_at i j k m v c.first i_ok j_ok ne c.scale c.first_in (laws.lower (D j i) (k * m) _ _ c.scale c.second_in (omega (arith, ints))) more)
 
-    tight_by : (i j k : ℕ) (v : ℤ) → i < size → j < size → admits k → allows (D i j) k v → (t : Bool) → eqb j i ≡ t → Solution i j k v
+    tight_by : (i j k : ℕ) (v : ℤ) → i < size → j < size → kind.admits k → kind.allows (D i j) k v → (t : Bool) → eqb j i ≡ t → Solution i j k v
     tight_by i j k v i_ok j_ok ok h true e =
         let same : j ≡ i = eqb-true j i e in
-        subst (λ (c : ℕ). Solution i c k v) (sym same) (whole i i k v (i ∷ []) (alone i k v i_ok ok (subst (λ (c : ℕ). allows (D i c) k v) same h)))
+        subst (λ (c : ℕ). Solution i c k v) (sym same) (whole i i k v (i ∷ []) (alone i k v i_ok ok (subst (λ (c : ℕ). kind.allows (D i c) k v) same h)))
     tight_by i j k v i_ok j_ok ok h false e = whole i j k v (i ∷ j ∷ []) (pair i j k v i_ok j_ok (eqb-false j i e) ok h)
 
-    pub tight : (i j k : ℕ) (v : ℤ) → i < size → j < size → admits k → allows (D i j) k v → Solution i j k v
+    pub tight : (i j k : ℕ) (v : ℤ) → i < size → j < size → kind.admits k → kind.allows (D i j) k v → Solution i j k v
     tight i j k v i_ok j_ok ok h = tight_by i j k v i_ok j_ok ok h (eqb j i) refl

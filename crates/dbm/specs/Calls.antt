@@ -1,66 +1,54 @@
--- What a table in lent memory holds. Assumes nothing.
-use Rattle.std.specs.Prelude.{◌≡◌, ℕ, ◌*◌, ◌^◌, ◌<◌, ◌≤◌, Bool, List, length, ℤ, pos, ◌-ℤ◌, ◌≤ℤ◌}
-use Rattle.bound.specs.Time.{Meaning, Same, Made}
-use Rattle.dbm.specs.Table.{entry, Sat, Closed, Tight, Solution}
+-- What the calls on a table do. Assumes nothing.
+use Rattle.std.specs.Prelude.{◌≡◌, ℕ, ℤ, ◌-ℤ◌}
+use Rattle.bound.specs.Time.{Same, Made}
+use Rattle.bound.specs.declared.atom.Atom.{Atom}
+use Rattle.bound.specs.declared.kind.Bound.{Ghosts as Kind}
+use Rattle.dbm.specs.Table.{entry, Sat, Solution, Tight}
+use Rattle.dbm.specs.Table.{Closed as IsClosed}
 use Rattle.dbm.specs.declared.table.Table.{Table}
-use Rattle.dbm.specs.declared.close.Consistency.{Consistency}
-use Rattle.dbm.specs.declared.close.Consistency.TheVariants.{Consistent, Inconsistent}
+use Rattle.dbm.specs.declared.table.Closed.{Closed}
 
--- the bounds of a table, row by row
-abbrev pub rows : {B : Type 0} → Table B → List B
-rows t = t.bounds.now
+-- ---- a table to which bounds are added
 
-module _ {B : Type 0} (admits : ℕ → Type 0) (allows : B → Meaning) (size : B → ℕ) (none : B) where
-  abbrev pub bound_at : Table B → ℕ → ℕ → B
-  bound_at t i j = entry none t.n (rows t) i j
+abbrev pub bound_at : {B : Type 0} {kind : Kind B} → Table B kind → ℕ → ℕ → B
+bound_at {B} {kind} t i j = entry kind.NONE t.square.n t.square.bounds.now i j
 
-  -- at scale k the values ν keep every bound of the table
-  abbrev pub Solves : Table B → ℕ → (ℕ → ℤ) → Type 0
-  Solves t k ν = Sat admits allows none t.n (rows t) k ν
+-- at scale k the values ν keep every bound of the table
+abbrev pub Solves : {B : Type 0} {kind : Kind B} → Table B kind → ℕ → (ℕ → ℤ) → Type 0
+Solves {B} {kind} t k ν = Sat kind t.square.n t.square.bounds.now k ν
 
-  -- What `new` gives and every call keeps: at most 17 rows, and the memory is there.
-  pub record Fits (t : Table B) : Type 0 where
-    pub few : t.n ≤ 17
-    pub whole : length t.bounds.now ≡ t.n * t.n
-    pub row : length t.copy.now ≡ t.n
+-- some values at an admitted scale do
+abbrev pub HasSolution : {B : Type 0} {kind : Kind B} → Table B kind → Type 0
+HasSolution {B} {kind} t = Solution kind (bound_at t) t.square.n
 
-  -- A table to which bounds are added: the sizes are those of made bounds, and the diagonal allows at most 0.
-  pub record Open (t : Table B) : Type 0 where
-    pub fits : Fits t
-    pub small : (i j : ℕ) → i < t.n → j < t.n → size (bound_at t i j) ≤ 2 ^ 37
-    pub flat : (i : ℕ) → i < t.n → (k : ℕ) (v : ℤ) → admits k → allows (bound_at t i i) k v → v ≤ℤ pos 0
+-- a new table: every value solves it
+pub record EmptyTable {B : Type 0} {kind : Kind B} (n : ℕ) (t : Table B kind) : Type 0 where
+  pub rows_are : t.square.n ≡ n
+  pub all : (k : ℕ) (ν : ℕ → ℤ) → kind.admits k → Solves t k ν
 
-  -- A table that was closed and is consistent: it is closed, each difference that a bound allows is reached, and the sizes
-  -- are far below the limit of sums.
-  pub record Done (t : Table B) : Type 0 where
-    pub fits : Fits t
-    pub closed : Closed admits allows (bound_at t) t.n
-    pub tight : Tight admits allows (bound_at t) t.n
-    pub small : (i j : ℕ) → i < t.n → j < t.n → size (bound_at t i j) ≤ 2 ^ 54
+-- One more bound: the solutions are those of before that also keep it.
+pub record More {B : Type 0} {kind : Kind B} (old : Table B kind) (atom : Atom) (new : Table B kind) : Type 0 where
+  pub same_rows : new.square.n ≡ old.square.n
+  pub solutions : (k : ℕ) (ν : ℕ → ℤ) → kind.admits k → Same (Solves new k ν) (Solves old k ν × Made atom.d atom.strict k (ν atom.i -ℤ ν atom.j))
 
-  -- a new table: every value solves it
-  pub record EmptyTable (n : ℕ) (t : Table B) : Type 0 where
-    pub is_open : Open t
-    pub rows_are : t.n ≡ n
-    pub all : (k : ℕ) (ν : ℕ → ℤ) → admits k → Solves t k ν
+-- ---- a table that was closed
 
-  -- One more bound on the difference of i and j: the solutions are those of before that also keep it.
-  pub record More (old : Table B) (i j : ℕ) (d : ℤ) (strict : Bool) (new : Table B) : Type 0 where
-    pub is_open : Open new
-    pub same_rows : new.n ≡ old.n
-    pub solutions : (k : ℕ) (ν : ℕ → ℤ) → admits k → Same (Solves new k ν) (Solves old k ν × Made d strict k (ν i -ℤ ν j))
+abbrev pub closed_bound_at : {B : Type 0} {kind : Kind B} → Closed B kind → ℕ → ℕ → B
+closed_bound_at {B} {kind} t i j = entry kind.NONE t.square.n t.square.bounds.now i j
 
-  -- What closing answers: consistent, and the table is done and has a solution; or inconsistent, and it has none at any
-  -- admitted scale. The solutions stay.
-  abbrev pub Answered : Consistency → Table B → Table B → Type 0
-  Answered Consistent old new = Done new × Solution admits allows (bound_at old) old.n
-  Answered Inconsistent old new = Solution admits allows (bound_at old) old.n → ⊥
+-- at scale k the values ν keep every bound of the table
+abbrev pub SolvesClosed : {B : Type 0} {kind : Kind B} → Closed B kind → ℕ → (ℕ → ℤ) → Type 0
+SolvesClosed {B} {kind} t k ν = Sat kind t.square.n t.square.bounds.now k ν
 
-  pub record Closes (answer : Consistency) (old new : Table B) : Type 0 where
-    pub same_rows : new.n ≡ old.n
-    pub solutions : (k : ℕ) (ν : ℕ → ℤ) → admits k → Same (Solves new k ν) (Solves old k ν)
-    pub answered : Answered answer old new
+-- What closing makes of a table that has a solution: the solutions stay, it is closed, and each difference that a bound
+-- allows is reached.
+pub record Closes {B : Type 0} {kind : Kind B} (old : Table B kind) (new : Closed B kind) : Type 0 where
+  pub same_rows : new.square.n ≡ old.square.n
+  pub solutions : (k : ℕ) (ν : ℕ → ℤ) → kind.admits k → Same (SolvesClosed new k ν) (Solves old k ν)
+  pub solution : HasSolution old
+  pub closed : IsClosed kind (closed_bound_at new) new.square.n
+  pub tight : Tight kind (closed_bound_at new) new.square.n
 
-  -- every solution keeps the bound on the difference of i and j
-  abbrev pub Keeps : Table B → ℕ → ℕ → ℤ → Bool → Type 0
-  Keeps t i j d strict = (k : ℕ) (ν : ℕ → ℤ) → admits k → Solves t k ν → Made d strict k (ν i -ℤ ν j)
+-- every solution keeps the bound
+abbrev pub Keeps : {B : Type 0} {kind : Kind B} → Closed B kind → Atom → Type 0
+Keeps {B} {kind} t atom = (k : ℕ) (ν : ℕ → ℤ) → kind.admits k → SolvesClosed t k ν → Made atom.d atom.strict k (ν atom.i -ℤ ν atom.j)

@@ -1,21 +1,14 @@
 // Closing a table: no entry greater than the sum of two entries through a third.
-ghost use Rattle.std.specs.Prelude.{◌≡◌, ℕ, ◌+◌, ◌*◌, ◌^◌, ◌<◌, ◌≤◌, length, ℤ, pos, ◌≤ℤ◌, Decides, slice_index_or};
-ghost use Rattle.bound.specs.Time.{Within};
-ghost use Rattle.dbm.specs.Table.{Tightened, entry, TurnsMade, SameSolutions, Closing};
+ghost use Rattle.std.specs.Prelude.{◌≡◌, ℕ, ◌+◌, ◌^◌, ◌<◌, ◌≤◌, true, false, length, ℤ, pos, ◌≤ℤ◌, slice_index_or};
+ghost use Rattle.dbm.specs.Table.{Tightened, entry, SameSolutions, ConsistentTable, Solution};
 
+use crate::square::Square;
 use bound::Bound;
-
-// Whether a table has a solution.
-#[derive(Clone, Copy, Debug, PartialEq, Eq)]
-pub enum Consistency {
-    Consistent,
-    Inconsistent,
-}
 
 // The smaller of a bound and the sum of two others.
 fn lowered<B: Bound>(old: B, via: B, through: B) -> B
     requires { B.size via + B.size through ≤ 2 ^ 60 }
-    ensures { Tightened B.admits B.allows B.size old via through result }
+    ensures { Tightened B.Bound old via through result }
 {
     let sum = via.sum(through);
     if old.not_greater(sum) { old } else { sum }
@@ -24,103 +17,49 @@ fn lowered<B: Bound>(old: B, via: B, through: B) -> B
 // Tightens one row: each entry by `via` and the entry of the same column in the row `through`.
 fn tighten<B: Bound>(row: &mut [B], via: B, through: &[B])
     requires same_length { length row.old ≡ length through.now }
-    requires sizes { (j : ℕ) → j < length through.now → B.size via + B.size (slice_index_or through.now j B.unbounded) ≤ 2 ^ 60 }
-    ensures { (j : ℕ) → j < length row.old → Tightened B.admits B.allows B.size (slice_index_or row.old j B.unbounded) via (slice_index_or through.now j B.unbounded) (slice_index_or row.new j B.unbounded) }
+    requires sizes { (j : ℕ) → j < length through.now → B.size via + B.size (slice_index_or through.now j B.NONE) ≤ 2 ^ 60 }
+    ensures { (j : ℕ) → j < length row.old → Tightened B.Bound (slice_index_or row.old j B.NONE) via (slice_index_or through.now j B.NONE) (slice_index_or row.new j B.NONE) }
 {
-    for j in 0..row.len() {
-        row[j] = lowered(row[j], via, through[j]);
+    // By index: a `zip` with `iter_mut` was tried, and the proof lacks what it leaves of the entries.
+    for (j, bound) in row.iter_mut().enumerate() {
+        *bound = lowered(*bound, via, through[j]);
     }
 }
 
-// Where row i begins.
-pub(crate) fn row_start(n: usize, i: usize) -> usize
-    requires few { n ≤ 17 }
-    requires in_table { i < n }
-    ensures at { result ≡ i * n }
-    ensures whole { result + n ≤ n * n }
-{
-    i * n
-}
-
-// One turn of closing: every entry by the way through k. `copy` holds row k meanwhile.
-fn turn<B: Bound>(table: &mut [B], copy: &mut [B], n: usize, k: usize)
-    requires few { n ≤ 17 }
-    requires in_table { k < n }
-    requires whole { length table.old ≡ n * n }
-    requires row { length copy.old ≡ n }
-    requires sizes { (i j : ℕ) → i < n → j < n → B.size (entry B.unbounded n table.old i j) ≤ 2 ^ 59 }
-    ensures { (i j : ℕ) → i < n → j < n → Tightened B.admits B.allows B.size (entry B.unbounded n table.old i j) (entry B.unbounded n table.old i k) (entry B.unbounded n table.old k j) (entry B.unbounded n table.new i j) }
-{
-    let from = row_start(n, k);
-    copy.copy_from_slice(&table[from..from + n]);
-    for i in 0..n {
-        let start = row_start(n, i);
-        let via = table[start + k];
-        tighten(&mut table[start..start + n], via, copy);
-    }
-}
-
-// Whether the diagonal entry at k allows 0.
-fn keeps_zero<B: Bound>(table: &[B], n: usize, k: usize) -> bool
-    requires few { n ≤ 17 }
-    requires in_table { k < n }
-    requires whole { length table.now ≡ n * n }
-    ensures { Decides result (Within B.admits (B.allows B.origin) (B.allows (entry B.unbounded n table.now k k))) }
-{
-    let start = row_start(n, k);
-    B::zero_bound().not_greater(table[start + k])
-}
-
-// Whether every diagonal entry allows 0.
-fn diagonal_keeps_zero<B: Bound>(table: &[B], n: usize) -> bool
-    requires few { n ≤ 17 }
-    requires whole { length table.now ≡ n * n }
-    ensures { Decides result ((i : ℕ) → i < n → Within B.admits (B.allows B.origin) (B.allows (entry B.unbounded n table.now i i))) }
-{
-    for i in 0..n {
-        if !keeps_zero(table, n, i) {
-            return false;
+impl<'a, B: Bound> Square<'a, B> {
+    // One turn of closing: every entry by the way through k. `copy` holds row k meanwhile.
+    fn turn(&mut self, copy: &mut [B], k: usize)
+        requires in_table { k < self.old.n }
+        requires row { length copy.old ≡ self.old.n }
+        requires sizes { (i j : ℕ) → i < self.old.n → j < self.old.n → B.size (entry B.NONE self.old.n self.old.bounds.now i j) ≤ 2 ^ 59 }
+        ensures rows { self.new.n ≡ self.old.n }
+        ensures tightened { (i j : ℕ) → i < self.old.n → j < self.old.n → Tightened B.Bound (entry B.NONE self.old.n self.old.bounds.now i j) (entry B.NONE self.old.n self.old.bounds.now i k) (entry B.NONE self.old.n self.old.bounds.now k j) (entry B.NONE self.old.n self.new.bounds.now i j) }
+    {
+        copy.copy_from_slice(self.row(k));
+        // By index: `chunks_exact_mut` was tried, and the proof lacks what it leaves of the rows.
+        for i in 0..self.n {
+            let via = self.at(i, k);
+            let start = self.place(i, 0);
+            tighten(&mut self.bounds[start..start + self.n], via, copy);
         }
     }
-    true
-}
 
-// Every turn of closing in order, or no more of them once the diagonal shows that there is no solution.
-fn turns<B: Bound>(table: &mut [B], copy: &mut [B], n: usize) -> Consistency
-    requires few { n ≤ 17 }
-    requires whole { length table.old ≡ n * n }
-    requires row { length copy.old ≡ n }
-    requires sizes { (i j : ℕ) → i < n → j < n → B.size (entry B.unbounded n table.old i j) ≤ 2 ^ 37 }
-    requires flat { (i : ℕ) → i < n → (k : ℕ) (v : ℤ) → B.admits k → B.allows (entry B.unbounded n table.old i i) k v → v ≤ℤ pos 0 }
-    ensures { TurnsMade B.admits B.allows result B.size B.unbounded n table.old table.new }
-{
-    for k in 0..n {
-        if !keeps_zero(table, n, k) {
-            return Consistency::Inconsistent;
-        }
-        turn(table, copy, n, k);
-    }
-    Consistency::Consistent
-}
-
-// Closes a table, and says whether it has a solution.
-pub(crate) fn close<B: Bound>(table: &mut [B], copy: &mut [B], n: usize) -> Consistency
-    requires few { n ≤ 17 }
-    requires whole { length table.old ≡ n * n }
-    requires row { length copy.old ≡ n }
-    requires sizes { (i j : ℕ) → i < n → j < n → B.size (entry B.unbounded n table.old i j) ≤ 2 ^ 37 }
-    requires flat { (i : ℕ) → i < n → (k : ℕ) (v : ℤ) → B.admits k → B.allows (entry B.unbounded n table.old i i) k v → v ≤ℤ pos 0 }
-    ensures same { SameSolutions B.admits B.allows B.unbounded n table.old table.new }
-    ensures answer { Closing B.admits B.allows result B.size (entry B.unbounded n table.old) (entry B.unbounded n table.new) n }
-{
-    match turns(table, copy, n) {
-        Consistency::Inconsistent => Consistency::Inconsistent,
-        Consistency::Consistent => {
-            if diagonal_keeps_zero(table, n) {
-                Consistency::Consistent
-            } else {
-                Consistency::Inconsistent
+    // Closes the table, and says whether it has a solution. No more turns are made once the diagonal shows that it has none.
+    pub(crate) fn close(&mut self, copy: &mut [B]) -> bool
+        requires row { length copy.old ≡ self.old.n }
+        requires sizes { (i j : ℕ) → i < self.old.n → j < self.old.n → B.size (entry B.NONE self.old.n self.old.bounds.now i j) ≤ 2 ^ 37 }
+        requires flat { (i : ℕ) → i < self.old.n → (k : ℕ) (v : ℤ) → B.admits k → B.allows (entry B.NONE self.old.n self.old.bounds.now i i) k v → v ≤ℤ pos 0 }
+        ensures rows { self.new.n ≡ self.old.n }
+        ensures same { SameSolutions B.Bound self.old.n self.old.bounds.now self.new.bounds.now }
+        ensures closed { result ≡ true → ConsistentTable B.Bound (entry B.NONE self.old.n self.old.bounds.now) (entry B.NONE self.old.n self.new.bounds.now) self.old.n }
+        ensures none { result ≡ false → Solution B.Bound (entry B.NONE self.old.n self.old.bounds.now) self.old.n → ⊥ }
+    {
+        for k in 0..self.n {
+            if !self.keeps_zero(k) {
+                return false;
             }
+            self.turn(copy, k);
         }
+        self.diagonal_keeps_zero()
     }
 }

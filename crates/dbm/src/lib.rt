@@ -1,10 +1,8 @@
 //! The table of bounds, for every kind of time.
 #![tactic(auto)]
 
-mod calls;
 mod close;
-mod entries;
+mod square;
 mod table;
 
-pub use close::Consistency;
-pub use table::Table;
+pub use table::{Closed, Table};

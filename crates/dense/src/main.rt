@@ -3,7 +3,7 @@
 
 use bound::{Bound, Dense};
 use files::model_and_zones;
-use sheet::{Call, Verdict, replay};
+use sheet::{Call, replay};
 use std::io;
 
 fn main(rt: HostRuntime) -> io::Result<()> {
@@ -12,9 +12,7 @@ fn main(rt: HostRuntime) -> io::Result<()> {
     let calls = vec![in rt.alloc(); Call::Settle(578); 65_535]?;
     let sheet = replay(&model, &zones, &calls, &mut area);
     match sheet.verdict() {
-        Ok(Verdict::Accepted(count)) => println!(rt; "accepted {count}"),
-        Ok(Verdict::Failing(number)) => println!(rt; "failing {number}"),
-        Ok(Verdict::Unfinished(count)) => println!(rt; "unfinished {count}"),
+        Ok(verdict) => println!(rt; "{verdict}"),
         Err(_) => println!(rt; "void"),
     }
 }

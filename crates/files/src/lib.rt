@@ -16,18 +16,12 @@ fn read(rt: &HostRuntime, path: &str) -> io::Result<Vec<u8>> {
 
 // The bytes of a file. One that can't be opened or read counts as empty.
 pub fn contents(rt: &HostRuntime, path: &str) -> Vec<u8> {
-    match read(rt, path) {
-        Ok(bytes) => bytes,
-        Err(_) => Vec::new(rt.alloc()),
-    }
+    read(rt, path).unwrap_or_else(|_| Vec::new(rt.alloc()))
 }
 
 // The file that an argument names, or else the one of this name in the current folder.
 fn named(rt: &HostRuntime, argument: Option<String>, name: &str) -> Vec<u8> {
-    match argument {
-        Some(path) => contents(rt, path.as_str()),
-        None => contents(rt, name),
-    }
+    contents(rt, argument.as_deref().unwrap_or(name))
 }
 
 // The model and the zone list that two arguments name, or else MODEL and ZONES.

@@ -1,19 +1,20 @@
 -- What a reader of records hands out. Assumes nothing.
-use Rattle.std.proofs.Common.{◌≡◌, ℕ, suc, ◌+◌, ◌-◌, ◌*◌, ◌<◌, ◌≤◌, true, false, eqb, List, [], ◌∷◌, ◌++◌, length, get_or, take, drop, sym, refl, ap, ◌∙◌, ⊎_elim, add-zero, arith, length-drop, take-append-drop, Bor}
+use Rattle.std.proofs.Common.{◌≡◌, ℕ, suc, ◌-◌, ◌*◌, ◌<◌, ◌≤◌, true, false, eqb, List, [], ◌∷◌, ◌++◌, length, get_or, take, drop, sym, refl, ap, ◌∙◌, ⊎_elim, arith, length-drop, take-append-drop, Bor}
 use Rattle.std.proofs.lemmas.List.{length-take-le}
 use Rattle.std.proofs.lemmas.Bool.{cases_Bool, eqb-true, cond_both}
 use Rattle.format.specs.Words.{kind, words, continues, continued, record_length}
 use Rattle.format.specs.Places.{Head, Context, Slot, scan, is_empty, context_after, slot_after}
 use Rattle.format.specs.Places.Slot.{onesMask, zerosMask, setMask, clearMask, resetMask, owed, atomOr, atomNumber, between, opening, starting}
-use Rattle.format.specs.Reading.{Begun, Past, BeginsNext, Handed, WalksOn, calm, reading, words_of, head_of, context_of, slot_of, rest_slot, walk_of, begun_by, part_of}
+use Rattle.format.specs.Reading.{Begun, Continued, Ended, Goes, Moves, Past, Reads, BeginsNext, Handed, WalksOn, calm, reading, words_of, head_of, context_of, slot_of, rest_slot, walk_of, begun_by, part_of}
 use Rattle.format.specs.declared.scope.Text.{Text}
 use Rattle.format.specs.declared.scope.Scope.{Scope}
 use Rattle.format.specs.declared.scope.Place.{Place}
 use Rattle.format.specs.declared.scope.Record.{Record}
 use Rattle.format.specs.declared.scope.Record.TheVariants.{Head as HeadRecord, Start as StartRecord, Invariant as InvariantRecord, Command as CommandRecord, Bad as BadRecord, Zone as ZoneRecord, End as EndRecord}
-use Rattle.format.proofs.Steps.{stop_at, not_due}
+use Rattle.format.proofs.Steps.{stop_at, not_due, same_scan}
 use Rattle.format.proofs.Cuts.{length_words, words_drop}
-use Rattle.format.proofs.Begins.{rest_begins}
+use Rattle.format.proofs.Begins.{rest_begins, long}
+use Rattle.format.proofs.Learned.{moves_one, moves_trans}
 
 -- between two records it does not matter whether the last one was urgent
 pub calm_walk : (h : Head) (x : Context) (s : Slot) (i : ℕ) (ws : List ℕ) → BeginsNext s → scan h x s i ws ≡ scan h (calm x) s i ws
@@ -71,48 +72,58 @@ walks_on (BadRecord b) p q bs rest no_end e = e
 walks_on (ZoneRecord b) p q bs rest no_end e = e
 walks_on (EndRecord b) p q bs rest no_end e = absurd (no_end refl)
 
-same_scan : (h k : Head) (x y : Context) (s r : Slot) (i j : ℕ) (ws vs : List ℕ) → h ≡ k → x ≡ y → s ≡ r → i ≡ j → ws ≡ vs → scan h x s i ws ≡ scan k y r j vs
-same_scan h k x y s r i j ws vs a b c d e = λ l. scan (a l) (b l) (c l) (d l) (e l)
+module _ (p : Place) (bs : List ℕ) (t : Text) (reads : Reads p bs t) where
+  -- the walk over what is left, as the reader sees it
+  pub walk_read : reading t (context_of p) (slot_of p) ≡ walk_of p bs
+  walk_read = same_scan _ _ _ _ _ _ _ _ _ _ (ap head_of reads.same_scope) refl refl reads.next reads.whole
 
-module _ (p : Place) (bytes : Bor (List ℕ)) (w n : ℕ) where
-  -- what a reader that stands at p sees
-  abbrev pub text : Text
-  text = record { scope = p.scope; bytes = bytes }
+  module _ (w n : ℕ) (more : List ℕ) (stands : words_of t ≡ w ∷ more) (is : record_length (words bs) ≡ n) (q : Place) (r : Record) (rest : List ℕ) (case : begun_by r ≡ kind w) (front : part_of r ≡ take (4 * n) bs) (back : rest ≡ drop (4 * n) bs) where
+    first_is : words bs ≡ w ∷ more
+    first_is = sym reads.whole ∙ stands
 
-  module _ (b : Begun p text w) (is : record_length (words_of text) ≡ n) where
-    module _ (q : Place) (r : Record) (rest : List ℕ) (case : begun_by r ≡ kind w) (front : part_of r ≡ take (4 * n) bytes.now) (back : rest ≡ drop (4 * n) bytes.now) where
-      pub handed : q.scope ≡ p.scope → q.file ≡ p.file → (length (words_of text) ≤ p.scope.words → WalksOn r p q bytes.now rest) → Handed p q bytes.now r rest
-      handed scope file walks = record {
-        some = record_some _ w _ b.stands;
-        case = case ∙ ap (λ (l : List ℕ). kind (get_or l 0 0)) (sym b.stands);
-        part = front ∙ ap (λ (k : ℕ). take (4 * k) bytes.now) (sym is);
-        left = back ∙ ap (λ (k : ℕ). drop (4 * k) bytes.now) (sym is);
-        whole = (λ i. front i ++ back i) ∙ take-append-drop (4 * n) bytes.now;
-        length_of_part = ap length front ∙ length-take-le (4 * n) bytes.now (omega (arith, record_fits bytes.now)) ∙ ap (λ (k : ℕ). 4 * k) (sym is);
-        same_scope = scope;
-        same_file = file;
-        walks = walks;
-      }
+    handed : q.scope ≡ p.scope → q.file ≡ p.file → (length (words bs) ≤ p.scope.words → WalksOn r p q bs rest) → Handed p q bs r rest
+    handed scope file walks = record {
+      some = record_some _ w _ first_is;
+      case = case ∙ ap (λ (l : List ℕ). kind (get_or l 0 0)) (sym first_is);
+      part = front ∙ ap (λ (k : ℕ). take (4 * k) bs) (sym is);
+      left = back ∙ ap (λ (k : ℕ). drop (4 * k) bs) (sym is);
+      whole = (λ i. front i ++ back i) ∙ take-append-drop (4 * n) bs;
+      length_of_part = ap length front ∙ length-take-le (4 * n) bs (omega (arith, record_fits bs)) ∙ ap (λ (k : ℕ). 4 * k) (sym is);
+      same_scope = scope;
+      same_file = file;
+      walks = walks;
+    }
 
-      -- the walk over the rest begins where the record ends
-      goes_past : Past p w q → (kind w ≡ 15 → ⊥) → reading text (context_after (context_of p) (slot_of p) w) (slot_after (context_of p) (slot_of p) w) 1 ≡ reading text (context_after (context_of p) (slot_of p) w) (rest_slot (slot_of p)) n → length (words_of text) ≤ p.scope.words → walk_of p bytes.now ≡ walk_of q rest
-      goes_past past no_end told enough =
-          let left : words rest ≡ drop n (words_of text) = ap words back ∙ words_drop n bytes.now in
-          let within = record_length_le (words_of text) in
-          let here : p.scope.words - length (words_of text) + n ≡ q.scope.words - length (words rest) = omega (arith, ap length left, length-drop n (words_of text), ap (λ (c : Scope). c.words) past.same_scope) in
-          ap (λ (i : ℕ). scan (head_of p.scope) (context_of p) (slot_of p) i (words_of text)) (sym (add-zero _))
-          ∙ (b.goes no_end).1 ∙ told
-          ∙ calm_walk _ _ _ _ _ (rest_begins (slot_of p))
-          ∙ same_scan _ _ _ _ _ _ _ _ _ _ (ap head_of (sym past.same_scope)) (sym past.context) (sym past.slot) here (sym left)
+  -- the end is one word, and the last
+  pub end_length : Ended p t → record_length (words bs) ≡ 1
+  end_length b = end_alone _ b.word (sym reads.whole ∙ b.stands)
 
-      pub handed_record : Past p w q → (kind w ≡ 15 → ⊥) → reading text (context_after (context_of p) (slot_of p) w) (slot_after (context_of p) (slot_of p) w) 1 ≡ reading text (context_after (context_of p) (slot_of p) w) (rest_slot (slot_of p)) n → Handed p q bytes.now r rest
-      handed_record past no_end told = handed past.same_scope past.same_file (λ enough. walks_on r p q bytes.now rest (λ e. no_end (sym case ∙ e)) (goes_past past no_end told enough))
+  pub handed_end : (part rest : Bor (List ℕ)) → Ended p t → part.now ≡ take 4 bs → rest.now ≡ drop 4 bs → Handed p p bs (EndRecord part) rest.now
+  handed_end part rest b front back =
+      handed b.word 1 [] b.stands (end_length b) p (EndRecord part) rest.now (sym b.is_end) front back refl refl
+      (λ _. (sym walk_read ∙ b.passes, ap words back ∙ words_drop 1 bs ∙ ap (drop 1) (sym reads.whole ∙ b.stands), refl))
 
--- the end is one word, and the last
-pub end_length : (p : Place) (bytes : Bor (List ℕ)) (w : ℕ) → Begun p (record { scope = p.scope; bytes = bytes }) w → kind w ≡ 15 → record_length (words bytes.now) ≡ 1
-end_length p bytes w b e = end_alone _ w (b.stands ∙ ap (λ (l : List ℕ). w ∷ l) (b.ends e).1)
+  module _ (w : ℕ) (q : Text) (b : Begun p t w q) (u : Text) (told : Continued q w u) where
+    goes_on_from : Goes q (context_after (context_of p) (slot_of p) w) (slot_after (context_of p) (slot_of p) w) u (rest_slot (slot_of p))
+    goes_on_from = told.goes (context_of p) (slot_of p) b.begins
 
-pub handed_end : (p : Place) (bytes part rest : Bor (List ℕ)) (w : ℕ) → Begun p (record { scope = p.scope; bytes = bytes }) w → kind w ≡ 15 → part.now ≡ take 4 bytes.now → rest.now ≡ drop 4 bytes.now → Handed p p bytes.now (EndRecord part) rest.now
-handed_end p bytes part rest w b e front back =
-    handed p bytes w 1 b (end_length p bytes w b e) p (EndRecord part) rest.now (sym e) front back refl refl
-    (λ _. (ap (λ (i : ℕ). scan (head_of p.scope) (context_of p) (slot_of p) i (words bytes.now)) (sym (add-zero _)) ∙ (b.ends e).0, ap words back ∙ words_drop 1 bytes.now ∙ (b.ends e).1, refl))
+    moved : Moves t u
+    moved = moves_trans t q u (moves_one t w q b.taken) goes_on_from.moves
+
+    pub later : t.next ≤ u.next
+    later = moved.later
+
+    pub taken_length : record_length (words bs) ≡ u.next - t.next
+    taken_length = ap record_length (sym reads.whole) ∙ long t w q _ _ u _ b.taken goes_on_from told.whole
+
+    pub handed_record : (g : Place) (r : Record) (rest : List ℕ) → begun_by r ≡ kind w → part_of r ≡ take (4 * (u.next - t.next)) bs → rest ≡ drop (4 * (u.next - t.next)) bs → Past p w g → (kind w ≡ 15 → ⊥) → Handed p g bs r rest
+    handed_record g r rest case front back past no_end =
+        let n = u.next - t.next in
+        let left : words rest ≡ words_of u = ap words back ∙ words_drop n bs ∙ ap (drop n) (sym reads.whole) ∙ sym moved.left in
+        let within = record_length_le (words bs) in
+        let walks : length (words bs) ≤ p.scope.words → walk_of p bs ≡ walk_of g rest = λ enough.
+        let here : u.next ≡ g.scope.words - length (words rest) = omega (arith, later, reads.next, taken_length, ap length back, ap (λ (c : Scope). c.words) past.same_scope, length_words rest, length_words bs, length-drop (4 * n) bs) in
+        sym walk_read ∙ b.goes ∙ goes_on_from.walks
+        ∙ calm_walk _ _ _ _ _ (rest_begins (slot_of p))
+        ∙ same_scan _ _ _ _ _ _ _ _ _ _ (ap head_of (moved.same_scope ∙ reads.same_scope ∙ sym past.same_scope)) (sym past.context) (sym past.slot) here (sym left) in
+        handed w n _ b.taken.first taken_length g r rest case front back past.same_scope past.same_file (λ enough. walks_on r p g bs rest (λ e. no_end (sym case ∙ e)) (walks enough))

@@ -1,6 +1,7 @@
 pub mod Cuts
 pub mod Steps
 pub mod Exits
+pub mod NoKind
 pub mod Learned
 pub mod Begins
 pub mod Firsts

@@ -11,6 +11,9 @@ use Rattle.format.specs.Places.Scan.{stopped, passed}
 use Rattle.format.specs.Places.Slot.{onesMask, zerosMask, setMask, clearMask, resetMask, owed, atomOr, atomNumber, between, opening, starting}
 use Rattle.format.specs.Reading.{TakesMask, TakesNumber, BeginsNext}
 
+pub same_scan : (h k : Head) (x y : Context) (s r : Slot) (i j : ℕ) (ws vs : List ℕ) → h ≡ k → x ≡ y → s ≡ r → i ≡ j → ws ≡ vs → scan h x s i ws ≡ scan k y r j vs
+same_scan h k x y s r i j ws vs a b c d e = λ l. scan (a l) (b l) (c l) (d l) (e l)
+
 module _ (h : Head) (x : Context) (s : Slot) (i : ℕ) where
   pub stop_at : (n w : ℕ) (ws : List ℕ) → questions h x s (is_empty ws) w ≡ first_no n → scan h x s i (w ∷ ws) ≡ stopped n i
   unfolding scan
@@ -44,7 +47,7 @@ questions_mask h x (atomNumber a) last w t e = absurd t
 questions_mask h x between last w t e = absurd t
 
 -- a number word has no unused bits
-full : (w : ℕ) → ltb (w % 268435456) 268435456 ≡ true
+pub full : (w : ℕ) → ltb (w % 268435456) 268435456 ≡ true
 full w = lt-ltb _ _ (omega arith)
 
 pub questions_number : (h : Head) (x : Context) (s : Slot) (last : Bool) (w : ℕ) (least : ℤ) → TakesNumber least s → kind w ≡ 10 → questions h x s last w ≡ asks (le_z least (value w) && le_z (value w) greatest_number) 8 yes_to_all

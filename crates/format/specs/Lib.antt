@@ -5,3 +5,5 @@ pub mod Faults
 pub mod Reading
 pub mod Syntax
 pub mod Ranges
+pub mod Kinds
+pub mod Names

@@ -1,7 +1,7 @@
 -- The walk over what is left of a file, as the reader of records sees it. Assumes nothing.
-use Rattle.std.specs.Prelude.{◌≡◌, ℕ, ◌+◌, ◌-◌, ◌*◌, ◌^◌, ◌<◌, ◌≤◌, true, false, ◌||◌, List, [], ◌∷◌, ◌++◌, length, take, drop, ℤ, pos, Option, ◌==◌, ◌≢◌, int_le, slice_index}
+use Rattle.std.specs.Prelude.{◌≡◌, ◌≢◌, ℕ, suc, ◌+◌, ◌-◌, ◌*◌, ◌^◌, ◌<◌, ◌≤◌, Bool, true, false, ◌||◌, List, [], ◌∷◌, ◌++◌, length, take, drop, ℤ, pos, Some, None, Option, Result, MatchResult, ◌==◌, int_le, slice_index}
 use Rattle.format.specs.Words.{words, kind, content, value, continued, record_length}
-use Rattle.format.specs.Places.{Head, Context, Slot, Scan, scan, least_number, greatest_number, File, Section, Tally, after_head, starts_record, context_after, slot_after, within_limit}
+use Rattle.format.specs.Places.{Head, Context, Slot, Scan, scan, least_number, greatest_number, File, Section, Tally, after_head, context_after, slot_after, within_limit}
 use Rattle.format.specs.Places.Scan.{passed}
 use Rattle.format.specs.Places.File.{model, zones}
 use Rattle.format.specs.Places.Section.{head, start, invariant, command, bad, zone}
@@ -9,6 +9,7 @@ use Rattle.format.specs.Places.Slot.{onesMask, zerosMask, setMask, clearMask, re
 use Rattle.format.specs.LookOver.{file_walk}
 use Rattle.format.specs.Faults.{record_stop}
 use Rattle.format.specs.declared.fault.RecordFault.{RecordFault}
+use Rattle.format.specs.declared.kind.FirstWord.{FirstWord}
 use Rattle.format.specs.declared.scope.Scope.{Scope}
 use Rattle.format.specs.declared.scope.Text.{Text}
 use Rattle.format.specs.declared.scope.Place.{Place}
@@ -17,8 +18,8 @@ use Rattle.format.specs.declared.scope.Record.TheVariants.{Head as HeadRecord, S
 use Rattle.format.specs.declared.scope.Tally.{Tally as Counted}
 use Rattle.format.specs.declared.scope.File.{File as Which}
 use Rattle.format.specs.declared.scope.File.TheVariants.{Model, List as ZoneList}
-use Rattle.format.specs.declared.scope.Section.{Section as Last}
-use Rattle.format.specs.declared.scope.Section.TheVariants.{Opening, Head as AfterHead, Start as AfterStart, Invariant as AfterInvariant, Command as AfterCommand, Bad as AfterBad, Zone as AfterZone}
+use Rattle.format.specs.declared.kind.RecordKind.{RecordKind}
+use Rattle.format.specs.declared.kind.RecordKind.TheVariants.{Head as AfterHead, Start as AfterStart, Invariant as AfterInvariant, Command as AfterCommand, Bad as AfterBad, Zone as AfterZone}
 
 abbrev pub head_of : Scope → Head
 head_of p = record { booleans = p.booleans; clocks = p.clocks }
@@ -26,26 +27,39 @@ head_of p = record { booleans = p.booleans; clocks = p.clocks }
 abbrev pub words_of : Text → List ℕ
 words_of t = words t.bytes.now
 
--- the place in the file of the first word that is left
-abbrev pub first : Text → ℕ
-first t = t.scope.words - length (words_of t)
+-- the walk over the words that are left
+abbrev pub reading : Text → Context → Slot → Scan
+reading t x s = scan (head_of t.scope) x s t.next (words_of t)
 
--- the word that is left at k is w
-abbrev pub At : Text → ℕ → ℕ → Type 0
-At t k w = drop k (words_of t) ≡ w ∷ drop (k + 1) (words_of t)
+-- w was taken: it was the first of the words of t, and q has the others
+pub record Takes (t : Text) (w : ℕ) (q : Text) : Type 0 where
+  pub first : words_of t ≡ w ∷ words_of q
+  pub next : q.next ≡ suc t.next
+  pub same_scope : q.scope ≡ t.scope
 
--- the walk from the word at k on
-abbrev pub reading : Text → Context → Slot → ℕ → Scan
-reading t x s k = scan (head_of t.scope) x s (first t + k) (drop k (words_of t))
+-- the next word is of no such kind
+abbrev pub NotNext : Text → ℕ → Type 0
+NotNext t n = (w : ℕ) (more : List ℕ) → words_of t ≡ w ∷ more → kind w ≢ n
 
--- from the word at k to the word at j, every word may stand and continues the record
-pub record Goes (t : Text) (x : Context) (s : Slot) (k : ℕ) (r : Slot) (j : ℕ) : Type 0 where
-  pub walks : reading t x s k ≡ reading t x r j
-  pub continues : k + continued (drop k (words_of t)) ≡ j + continued (drop j (words_of t))
+-- some words of t were taken, and q has the others
+pub record Moves (t q : Text) : Type 0 where
+  pub later : t.next ≤ q.next
+  pub left : words_of q ≡ drop (q.next - t.next) (words_of t)
+  pub same_scope : q.scope ≡ t.scope
 
--- the walk from the word at k on stops with this fault
-abbrev pub Stops : Text → Context → Slot → ℕ → RecordFault → Type 0
-Stops t x s k f = reading t x s k ≡ record_stop f
+-- every word that was taken may stand and continues the record
+pub record Goes (t : Text) (x : Context) (s : Slot) (q : Text) (r : Slot) : Type 0 where
+  pub moves : Moves t q
+  pub walks : reading t x s ≡ reading q x r
+  pub continues : t.next + continued (words_of t) ≡ q.next + continued (words_of q)
+
+-- the walk over the words that are left stops with this fault
+abbrev pub Stops : Text → Context → Slot → RecordFault → Type 0
+Stops t x s f = reading t x s ≡ record_stop f
+
+-- at every context of which P holds, what was taken may stand and continues the record, or the walk stops with the fault
+abbrev pub Walks : Text → Slot → Text → Slot → (Context → Type 0) → Result (Unit {0}) RecordFault → Type 0
+Walks t s q r P res = MatchResult res (λ _. (x : Context) → P x → Goes t x s q r) (λ f. (x : Context) → P x → Stops t x s f)
 
 -- the slots of a mask word
 abbrev pub TakesMask : Slot → Type 0
@@ -61,10 +75,10 @@ TakesMask (atomOr a) = ⊥
 TakesMask (atomNumber a) = ⊥
 TakesMask between = ⊥
 
--- a mask that may stand at k: m
-pub record Mask (t : Text) (k : ℕ) (m : ℕ) : Type 0 where
+-- a mask that may stand was taken: m
+pub record Mask (t : Text) (m : ℕ) (q : Text) : Type 0 where
   pub word : ℕ
-  pub stands : At t k word
+  pub taken : Takes t word q
   pub is_mask : kind word ≡ 4
   pub is : content word ≡ m
   pub narrow : m < 2 ^ 24
@@ -98,14 +112,19 @@ BeginsNext (atomOr a) = ⊥
 BeginsNext (atomNumber a) = ⊥
 BeginsNext between = Unit {0}
 
--- a number that may stand at k: v
-pub record Number (t : Text) (k : ℕ) (least v : ℤ) : Type 0 where
+-- a number that may stand was taken: v
+pub record Number (t : Text) (least v : ℤ) (q : Text) : Type 0 where
   pub word : ℕ
-  pub stands : At t k word
+  pub taken : Takes t word q
   pub is_number : kind word ≡ 10
   pub is : value word ≡ v
   pub low : int_le least v ≡ true
   pub high : int_le v greatest_number ≡ true
+
+-- an atom and its number were taken after `count` others of their record; or no atom comes next, and none was taken
+abbrev pub AtomTaken : Text → Bool → ℕ → Text → Bool → Type 0
+AtomTaken t urgent count q true = (count < 64) × ((x : Context) → x.urgent ≡ urgent → Goes t x (atomOr count) q (atomOr (count + 1)))
+AtomTaken t urgent count q false = (x : Context) → Goes t x (atomOr count) q between
 
 -- ---- where a reader of records stands
 
@@ -113,32 +132,32 @@ abbrev pub file_of : Which → File
 file_of Model = model
 file_of ZoneList = zones
 
-abbrev pub section_at : Last → Section
-section_at Opening = head
-section_at AfterHead = head
-section_at AfterStart = start
-section_at AfterInvariant = invariant
-section_at AfterCommand = command
-section_at AfterBad = bad
-section_at AfterZone = zone
+abbrev pub section_at : Option RecordKind → Section
+section_at None = head
+section_at (Some AfterHead) = head
+section_at (Some AfterStart) = start
+section_at (Some AfterInvariant) = invariant
+section_at (Some AfterCommand) = command
+section_at (Some AfterBad) = bad
+section_at (Some AfterZone) = zone
 
-abbrev pub slot_at : Which → Last → Slot
-slot_at f Opening = opening (file_of f)
-slot_at f AfterHead = after_head (file_of f)
-slot_at f AfterStart = between
-slot_at f AfterInvariant = between
-slot_at f AfterCommand = between
-slot_at f AfterBad = between
-slot_at f AfterZone = between
+abbrev pub slot_at : Which → Option RecordKind → Slot
+slot_at f None = opening (file_of f)
+slot_at f (Some AfterHead) = after_head (file_of f)
+slot_at f (Some AfterStart) = between
+slot_at f (Some AfterInvariant) = between
+slot_at f (Some AfterCommand) = between
+slot_at f (Some AfterBad) = between
+slot_at f (Some AfterZone) = between
 
 abbrev pub tally_of : Counted → Tally
 tally_of t = record { invariants = t.invariants; commands = t.commands; bads = t.bads; zones = t.zones }
 
 abbrev pub context_of : Place → Context
-context_of p = record { section = section_at p.section; urgent = false; tally = tally_of p.tally }
+context_of p = record { section = section_at p.last; urgent = false; tally = tally_of p.tally }
 
 abbrev pub slot_of : Place → Slot
-slot_of p = slot_at p.file p.section
+slot_of p = slot_at p.file p.last
 
 -- ---- one record
 
@@ -188,13 +207,35 @@ Begins (atomOr a) w = ⊥
 Begins (atomNumber a) w = ⊥
 Begins between w = (kind w == 3 || kind w == 6 || kind w == 7 || kind w == 8) ≡ true
 
--- the first word may stand: the end, or a record's first word, after which the walk goes on
-pub record Begun (p : Place) (t : Text) (w : ℕ) : Type 0 where
-  pub stands : At t 0 w
-  pub starts : starts_record (kind w) ≡ true
-  pub ends : kind w ≡ 15 → (reading t (context_of p) (slot_of p) 0 ≡ passed (tally_of p.tally)) × (drop 1 (words_of t) ≡ [])
+-- a reader at the place p that has taken no word of the bytes bs
+pub record Reads (p : Place) (bs : List ℕ) (t : Text) : Type 0 where
+  pub whole : words_of t ≡ words bs
+  pub next : t.next ≡ p.scope.words - length (words bs)
+  pub same_scope : t.scope ≡ p.scope
+
+-- w, the first word, was taken; it may stand and begins a record, after which the walk goes on
+pub record Begun (p : Place) (t : Text) (w : ℕ) (q : Text) : Type 0 where
+  pub taken : Takes t w q
   pub room : within_limit (context_of p) (slot_of p) w ≡ true
-  pub goes : (kind w ≢ 15) → Begins (slot_of p) w × (reading t (context_of p) (slot_of p) 0 ≡ reading t (context_after (context_of p) (slot_of p) w) (slot_after (context_of p) (slot_of p) w) 1)
+  pub begins : Begins (slot_of p) w
+  pub goes : reading t (context_of p) (slot_of p) ≡ reading q (context_after (context_of p) (slot_of p) w) (slot_after (context_of p) (slot_of p) w)
+
+-- the first word is the end, and the last; the walk has passed
+pub record Ended (p : Place) (t : Text) : Type 0 where
+  pub word : ℕ
+  pub stands : words_of t ≡ word ∷ []
+  pub is_end : kind word ≡ 15
+  pub passes : reading t (context_of p) (slot_of p) ≡ passed (tally_of p.tally)
+
+-- the word that begins the next record, or nothing where the file ends
+abbrev pub BegunBy : Place → Text → Option FirstWord → Text → Type 0
+BegunBy p t None q = Ended p t
+BegunBy p t (Some first) q = Begun p t first.word q
+
+-- the words that continue the record that w begins, and after them no other
+pub record Continued (t : Text) (w : ℕ) (q : Text) : Type 0 where
+  pub goes : (x : Context) (s : Slot) → Begins s w → Goes t (context_after x s w) (slot_after x s w) q (rest_slot s)
+  pub whole : continued (words_of q) ≡ 0
 
 -- the place after the record that w begins at p
 pub record Past (p : Place) (w : ℕ) (q : Place) : Type 0 where

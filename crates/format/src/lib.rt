@@ -2,12 +2,14 @@
 #![tactic(auto)]
 
 mod fault;
+mod kind;
 mod look;
 mod record;
 mod scope;
 mod text;
 
 pub use fault::{Fault, FileFault, RecordFault, WordFault};
+pub use kind::Kind;
 pub use look::{Summary, look_over};
 pub use scope::{File, Place, Record, Scope, Tally};
-pub use text::{content, word_at};
+pub use text::{content, continues, value, word_at};

@@ -11,8 +11,8 @@ ghost use Rattle.format.specs.Faults.{file_stop, file_told, counts, outcome};
 ghost use Rattle.format.specs.Reading.{walk_of, file_of, tally_of, head_of, Opened};
 
 use crate::fault::{Fault, FileFault};
-use crate::record::{END, HEAD};
-use crate::scope::{File, Place, Record, Scope, Section, Tally};
+use crate::kind::Kind;
+use crate::scope::{File, Place, Record, Scope, Tally};
 use crate::text::{content, word_at};
 
 // What was read of two files that passed.
@@ -33,7 +33,7 @@ const LONGEST: usize = 65_532;
 fn read_head(word: u32, words: u32) -> Option<Scope>
     ensures { MatchOption result (head_fits word ≡ false) (λ s. (head_fits word ≡ true) × (head_of s ≡ head_at word) × (s.words ≡ words)) }
 {
-    if word >> 28 != HEAD || content(word) >= 1 << 9 || word % 32 > 24 {
+    if !Kind::Head.is_of(word) || content(word) >= 1 << 9 || word % 32 > 24 {
         return None;
     }
     Some(Scope {
@@ -59,30 +59,29 @@ impl Place {
             return Err(FileFault::WrongEnd(last));
         }
         let words = (bytes.len() / 4) as u32;
-        match right_head(like, bytes, words) {
-            Some(scope) => Ok(Place {
-                scope,
-                file,
-                section: Section::Opening,
-                tally: Tally {
-                    invariants: 0,
-                    commands: 0,
-                    bads: 0,
-                    zones: 0,
-                },
-            }),
-            None => Err(FileFault::WrongHead),
-        }
+        let scope = right_head(like, bytes, words).ok_or(FileFault::WrongHead)?;
+        Ok(Place {
+            scope,
+            file,
+            last: None,
+            tally: Tally {
+                invariants: 0,
+                commands: 0,
+                bads: 0,
+                zones: 0,
+            },
+        })
     }
 }
 
-// Question 3: whether the word at `last` is an end that says how many words stand before it.
+// Question 3: whether the word at `last` is an end that says how many words stand before it. By a `match`: the same by
+// `is_some_and` was tried, and its proof did not close.
 fn ends_at(bytes: &[u8], last: usize) -> bool
     requires { length (words bytes.now) ≡ last + 1 }
     ensures { result ≡ ends_right (words bytes.now) }
 {
     match word_at(bytes, last) {
-        Some(word) => word >> 28 == END && content(word) as usize == last,
+        Some(word) => Kind::End.is_of(word) && content(word) as usize == last,
         None => false,
     }
 }
@@ -93,15 +92,13 @@ fn right_head(like: Option<u32>, bytes: &[u8], count: u32) -> Option<Scope>
     ensures { MatchOption result (head_right like (slice_index (words bytes.now) 0) ≡ false) (λ s. (head_right like (slice_index (words bytes.now) 0) ≡ true) × (head_of s ≡ head_at (slice_index (words bytes.now) 0)) × (s.words ≡ count)) }
 {
     let word = word_at(bytes, 0)?;
-    if let Some(model) = like {
-        if word != model {
-            return None;
-        }
+    if like.is_some_and(|model| word != model) {
+        return None;
     }
     read_head(word, count)
 }
 
-// Reads every record from a place on: how many there are.
+// Reads every record from a place on: how many there are. No index is counted; each turn hands on what is unread.
 fn tally(start: Place, bytes: &[u8]) -> Result<Tally, FileFault>
     requires { length (words bytes.now) ≤ start.scope.words }
     ensures { MatchResult result (λ t. walk_of start bytes.now ≡ passed (tally_of t)) (λ f. walk_of start bytes.now ≡ file_stop f) }
@@ -159,15 +156,9 @@ pub fn look_over(model: &[u8], zones: &[u8]) -> Result<Summary, Fault>
     ensures answer { outcome result ≡ look_over_answer model.now zones.now }
     ensures within { IfOk result (λ s. PassedFiles model.now zones.now (counts s)) }
 {
-    let tally = match look_file(File::Model, None, model) {
-        Ok(tally) => tally,
-        Err(f) => return Err(Fault::Model(f)),
-    };
+    let tally = look_file(File::Model, None, model).map_err(Fault::Model)?;
     let Some(head) = word_at(model, 0) else {
         unreachable()
     };
-    match look_list(head, tally, zones) {
-        Ok(summary) => Ok(summary),
-        Err(f) => Err(Fault::List(f)),
-    }
+    look_list(head, tally, zones).map_err(Fault::List)
 }

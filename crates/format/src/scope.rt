@@ -1,8 +1,11 @@
 // What the head of a file says, and how long the file is.
-ghost use Rattle.std.specs.Prelude.{◌≤◌};
+ghost use Rattle.std.specs.Prelude.{◌+◌, ◌/◌, ◌^◌, ◌<◌, ◌≤◌, length, Some};
+
+use crate::kind::RecordKind;
+use std::fmt;
 
 // The counts of Booleans and clocks, and the count of words in the whole file, by which a word's place is told.
-#[derive(Clone, Copy)]
+#[derive(Clone, Copy, Debug, PartialEq, Eq)]
 pub struct Scope {
     pub(crate) booleans: u32,
     pub(crate) clocks: u32,
@@ -11,11 +14,13 @@ pub struct Scope {
     ghost few_clocks: { clocks ≤ 15 },
 }
 
-// The words of a file from some word on.
-#[derive(Clone, Copy)]
+// A reader of words: those of a file that are left, and the place in the file of the next one.
+#[derive(Debug, PartialEq, Eq, Drop)]
 pub(crate) struct Text<'a> {
     pub(crate) scope: Scope,
+    pub(crate) next: usize,
     pub(crate) bytes: &'a [u8],
+    ghost countable: { next + length bytes.now / 4 < 2 ^ 64 },
 }
 
 // The two files.
@@ -25,16 +30,18 @@ pub enum File {
     List,
 }
 
-// The record that was read last.
-#[derive(Clone, Copy)]
-pub(crate) enum Section {
-    Opening,
-    Head,
-    Start,
-    Invariant,
-    Command,
-    Bad,
-    Zone,
+impl fmt::Display for File {
+    ghost use Rattle.format.specs.Names.{file_name};
+    ghost use Rattle.format.specs.Reading.{file_of};
+
+    ghost output = { λ f. Some (file_name (file_of f)) };
+
+    fn fmt<W: fmt::Write>(&self, f: &mut fmt::Formatter<W>) -> fmt::Result {
+        match *self {
+            File::Model => write!(f, "model"),
+            File::List => write!(f, "list"),
+        }
+    }
 }
 
 // How many records of each kind there are.
@@ -46,17 +53,17 @@ pub struct Tally {
     pub zones: u16,
 }
 
-// Where a reader of records stands in a file: between two records.
-#[derive(Clone, Copy)]
+// Where a reader of records stands in a file: after the record that was read last, if any.
+#[derive(Clone, Copy, Debug, PartialEq, Eq)]
 pub struct Place {
     pub(crate) scope: Scope,
     pub(crate) file: File,
-    pub(crate) section: Section,
+    pub(crate) last: Option<RecordKind>,
     pub(crate) tally: Tally,
 }
 
 // One record: a part of the file, the word that begins it and the words that continue it.
-#[derive(Clone, Copy)]
+#[derive(Clone, Copy, Debug, PartialEq, Eq)]
 pub enum Record<'a> {
     Head(&'a [u8]),
     Start(&'a [u8]),

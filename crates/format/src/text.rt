@@ -1,16 +1,19 @@
 // The reader of words: the words of a file from some word on, each asked the questions of its place.
-ghost use Rattle.std.specs.Prelude.{◌≡◌, ℕ, ◌+◌, ◌*◌, ◌^◌, ◌<◌, ◌≤◌, not, ◌&&◌, [], ◌∷◌, drop, pos, ◌-ℤ◌, MatchOption, MatchResult, ◌==◌, ◌≢◌, count_ones, int_le, nat_le, nat_lt};
+ghost use Rattle.std.specs.Prelude.{◌≡◌, true, ℕ, ◌+◌, ◌*◌, ◌^◌, ◌<◌, ◌≤◌, not, ◌&&◌, [], ◌∷◌, drop, pos, ◌-ℤ◌, MatchOption, MatchResult, ◌==◌, ◌≢◌, count_ones, int_le, nat_le, nat_lt};
 ghost use Rattle.format.specs.Words.{words, atom_i, atom_j, continued};
 ghost use Rattle.format.specs.Words.{continues as continues_of};
 ghost use Rattle.format.specs.Words.{content as content_of};
 ghost use Rattle.format.specs.Words.{kind as kind_of};
-ghost use Rattle.format.specs.Places.{Context, Slot, after_condition, owing};
+ghost use Rattle.format.specs.Words.{value as value_of};
+ghost use Rattle.format.specs.Kinds.{code};
+ghost use Rattle.format.specs.Places.{Context, Slot, after_condition, greatest_number, owing};
 ghost use Rattle.format.specs.Places.Slot.{onesMask, setMask, resetMask, atomOr, between};
-ghost use Rattle.format.specs.Reading.{At, Goes, Stops, TakesMask, TakesNumber, BeginsNext, Mask, Number, first, words_of};
+ghost use Rattle.format.specs.Reading.{AtomTaken, Goes, Stops, Takes, TakesMask, TakesNumber, NotNext, BeginsNext, Mask, Number, Walks, words_of};
 ghost use Rattle.format.specs.Faults.{six_seven, eight};
 ghost use Rattle.format.specs.declared.fault.RecordFault.TheVariants.{Misplaced};
 
 use crate::fault::{RecordFault, WordFault};
+use crate::kind::Kind;
 use crate::scope::{Scope, Text};
 
 // The k-th word of some bytes.
@@ -24,24 +27,19 @@ pub fn word_at(bytes: &[u8], k: usize) -> Option<u32>
     Some(u32::from_be_bytes([bytes[i], bytes[i + 1], bytes[i + 2], bytes[i + 3]]))
 }
 
-const MASK: u32 = 4;
-
-const RESET: u32 = 5;
-
-const ATOM: u32 = 9;
-
-const NUMBER: u32 = 10;
-
 // The most atoms that a record may have, and the greatest number.
 const ATOMS: usize = 64;
 
 const GREATEST: i32 = 1_000_000;
 
 // Masks, resets, atoms and numbers continue a record.
-fn continues(word: u32) -> bool
+pub fn continues(word: u32) -> bool
     ensures { result ≡ continues_of word }
 {
-    matches!(word >> 28, MASK | RESET | ATOM | NUMBER)
+    matches!(
+        Kind::of(word),
+        Some(Kind::Mask | Kind::Reset | Kind::Atom | Kind::Number)
+    )
 }
 
 // The low 28 bits of a word.
@@ -51,31 +49,50 @@ pub fn content(word: u32) -> u32
     word & 0x0fff_ffff
 }
 
+// What a number word stands for.
+pub fn value(word: u32) -> i32
+    ensures { result ≡ value_of word }
+{
+    content(word) as i32 - 134_217_728
+}
+
+// Question 6 at a word that uses the lowest bits of its content alone.
+pub(crate) fn narrow(content: u32, width: u32, place: usize) -> Result<u32, WordFault>
+    requires { width < 32 }
+    ensures { result ≡ six_seven (nat_lt content (2 ^ width)) true place content }
+{
+    if content >= 1 << width {
+        return Err(WordFault::UnusedBits(place));
+    }
+    Ok(content)
+}
+
+// Questions 6 and 7 at a set of names, of which this many are known.
+fn set_in(set: u32, width: u32, known: u32, place: usize) -> Result<u32, WordFault>
+    requires width { width < 32 }
+    requires known { known < 32 }
+    ensures { result ≡ six_seven (nat_lt set (2 ^ width)) (nat_lt set (2 ^ known)) place set }
+{
+    let set = narrow(set, width, place)?;
+    if set >= 1 << known {
+        return Err(WordFault::UnknownName(place));
+    }
+    Ok(set)
+}
+
 impl Scope {
     // Questions 6 and 7 at a word that is a set of Booleans.
     pub(crate) fn booleans_in(&self, set: u32, place: usize) -> Result<u32, WordFault>
         ensures { result ≡ six_seven (nat_lt set (2 ^ 24)) (nat_lt set (2 ^ self.now.booleans)) place set }
     {
-        if set >= 1 << 24 {
-            return Err(WordFault::UnusedBits(place));
-        }
-        if set >= 1 << self.booleans {
-            return Err(WordFault::UnknownName(place));
-        }
-        Ok(set)
+        set_in(set, 24, self.booleans, place)
     }
 
     // Questions 6 and 7 at a reset.
     fn clocks_in(&self, set: u32, place: usize) -> Result<u32, WordFault>
         ensures { result ≡ six_seven (nat_lt set (2 ^ 15)) (nat_lt set (2 ^ self.now.clocks)) place set }
     {
-        if set >= 1 << 15 {
-            return Err(WordFault::UnusedBits(place));
-        }
-        if set >= 1 << self.clocks {
-            return Err(WordFault::UnknownName(place));
-        }
-        Ok(set)
+        set_in(set, 15, self.clocks, place)
     }
 
     // Questions 6 and 7 at an atom.
@@ -94,12 +111,11 @@ impl Scope {
     }
 }
 
-// Question 8 at a number word with this content.
-fn number_in(stored: u32, least: i32, place: usize) -> Result<i32, WordFault>
-    requires { stored < 2 ^ 28 }
-    ensures { result ≡ eight (int_le least (pos stored -ℤ pos 134217728) && int_le (pos stored -ℤ pos 134217728) (pos 1000000)) place (pos stored -ℤ pos 134217728) }
+// Question 8 at a number word.
+fn number_in(word: u32, least: i32, place: usize) -> Result<i32, WordFault>
+    ensures { result ≡ eight (int_le least (value_of word) && int_le (value_of word) greatest_number) place (value_of word) }
 {
-    let number = stored as i32 - 134_217_728;
+    let number = value(word);
     if number < least || number > GREATEST {
         return Err(WordFault::OutOfRange(place));
     }
@@ -107,109 +123,102 @@ fn number_in(stored: u32, least: i32, place: usize) -> Result<i32, WordFault>
 }
 
 impl Text<'_> {
-    // The place in the file of the word at k.
-    pub(crate) fn place(&self, k: usize) -> usize
-        requires { k < 1000 }
-        ensures { result ≡ first self.now + k }
+    // Takes the next word.
+    pub(crate) fn take_word(&mut self) -> Option<u32>
+        ensures { MatchOption result ((words_of self.old ≡ []) × (self.new ≡ self.old)) (λ w. Takes self.old w self.new) }
     {
-        (self.scope.words as usize).saturating_sub(self.bytes.len() / 4) + k
+        let word = word_at(self.bytes, 0)?;
+        let (_, rest) = self.bytes.split_at(4);
+        self.bytes = rest;
+        self.next += 1;
+        Some(word)
     }
 
-    // Question 5 where words of one kind alone may stand: the content of the word at k.
-    fn expect(&self, kind: u32, k: usize) -> Result<u32, RecordFault>
-        requires { k < 1000 }
-        ensures { MatchResult result (λ m. ((w : ℕ) × At self.now k w × (kind_of w ≡ kind) × (content_of w ≡ m))) (λ f. (f ≡ Misplaced (first self.now + k)) × ((w : ℕ) → At self.now k w → kind_of w ≢ kind)) }
+    // Takes the next word where it is of this kind.
+    fn take(&mut self, kind: Kind) -> Option<u32>
+        ensures { MatchOption result (NotNext self.old (code kind) × (self.new ≡ self.old)) (λ w. Takes self.old w self.new × (kind_of w ≡ code kind)) }
     {
-        match word_at(self.bytes, k) {
-            Some(w) if w >> 28 == kind => Ok(content(w)),
-            _ => Err(RecordFault::Misplaced(self.place(k))),
-        }
-    }
-
-    // The mask at k.
-    fn mask(&self, k: usize) -> Result<u32, RecordFault>
-        requires { k < 1000 }
-        ensures { MatchResult result (λ m. Mask self.now k m) (λ f. (x : Context) (s : Slot) → TakesMask s → Stops self.now x s k f) }
-    {
-        let set = self.expect(MASK, k)?;
-        let known = self.scope.booleans_in(set, self.place(k))?;
-        Ok(known)
-    }
-
-    // The two masks of a condition, from k on.
-    pub(crate) fn condition(&self, k: usize) -> Result<(), RecordFault>
-        requires { k < 900 }
-        ensures { MatchResult result (λ _. (x : Context) → Goes self.now x onesMask k (after_condition x.section) (k + 2)) (λ f. (x : Context) → Stops self.now x onesMask k f) }
-    {
-        self.mask(k)?;
-        self.mask(k + 1)?;
-        Ok(())
-    }
-
-    // The clocks that a command resets, at k.
-    fn reset(&self, k: usize) -> Result<u32, RecordFault>
-        requires { k < 900 }
-        ensures { MatchResult result (λ m. (m < 2 ^ 15) × ((x : Context) → Goes self.now x resetMask k (owing (count_ones m)) (k + 1))) (λ f. (x : Context) → Stops self.now x resetMask k f) }
-    {
-        let set = self.expect(RESET, k)?;
-        let known = self.scope.clocks_in(set, self.place(k))?;
-        Ok(known)
-    }
-
-    // What a command sets and clears, from k on, and the clocks that it resets.
-    pub(crate) fn effects(&self, k: usize) -> Result<u32, RecordFault>
-        requires { k < 800 }
-        ensures { MatchResult result (λ m. (m < 2 ^ 15) × ((x : Context) → Goes self.now x setMask k (owing (count_ones m)) (k + 3))) (λ f. (x : Context) → Stops self.now x setMask k f) }
-    {
-        let set = self.mask(k)?;
-        let clear = self.mask(k + 1)?;
-        if clear & set != 0 {
-            return Err(RecordFault::SetAndClear(self.place(k + 1)));
-        }
-        let resets = self.reset(k + 2)?;
-        Ok(resets)
-    }
-
-    // The number at k, which is at least `least`.
-    fn number(&self, k: usize, least: i32) -> Result<i32, RecordFault>
-        requires { k < 1000 }
-        ensures { MatchResult result (λ v. Number self.now k least v) (λ f. (x : Context) (s : Slot) → TakesNumber least s → Stops self.now x s k f) }
-    {
-        let stored = self.expect(NUMBER, k)?;
-        let number = number_in(stored, least, self.place(k))?;
-        Ok(number)
-    }
-
-    // The numbers of a reset, from k on.
-    pub(crate) fn resets(&self, k: usize, count: u32) -> Result<(), RecordFault>
-        requires near { k < 800 }
-        requires few { count ≤ 15 }
-        ensures { MatchResult result (λ _. (x : Context) → Goes self.now x (owing count) k (atomOr 0) (k + count)) (λ f. (x : Context) → Stops self.now x (owing count) k f) }
-    {
-        for n in 0..count {
-            self.number(k + n as usize, 0)?;
-        }
-        Ok(())
-    }
-
-    // The word at k, where it is an atom.
-    fn atom_at(&self, k: usize) -> Option<u32>
-        ensures { MatchOption result ((w : ℕ) → At self.now k w → kind_of w ≢ 9) (λ w. At self.now k w × (kind_of w ≡ 9)) }
-    {
-        match word_at(self.bytes, k) {
-            Some(word) if word >> 28 == ATOM => Some(word),
+        match word_at(self.bytes, 0) {
+            Some(word) if kind.is_of(word) => self.take_word(),
             _ => None,
         }
     }
 
-    // The atom at k, after `count` others of its record, and its number.
-    fn atom(&self, word: u32, k: usize, urgent: bool, count: usize) -> Result<(), RecordFault>
-        requires near { k < 900 }
-        requires here { At self.now k word }
-        requires is_atom { kind_of word ≡ 9 }
-        ensures { MatchResult result (λ _. (count < 64) × ((x : Context) → x.urgent ≡ urgent → Goes self.now x (atomOr count) k (atomOr (count + 1)) (k + 2))) (λ f. (x : Context) → x.urgent ≡ urgent → Stops self.now x (atomOr count) k f) }
+    // Question 5 where words of one kind alone may stand.
+    fn expect(&mut self, kind: Kind) -> Result<u32, RecordFault>
+        ensures { MatchResult result (λ w. Takes self.old w self.new × (kind_of w ≡ code kind)) (λ f. (f ≡ Misplaced self.old.next) × NotNext self.old (code kind)) }
     {
-        let place = self.place(k);
+        let place = self.next;
+        self.take(kind).ok_or(RecordFault::Misplaced(place))
+    }
+
+    // A mask. A mask, a reset and a number are taken alike, but each is asked and tells something else, so they stay three.
+    fn mask(&mut self) -> Result<u32, RecordFault>
+        ensures { MatchResult result (λ m. Mask self.old m self.new) (λ f. (x : Context) (s : Slot) → TakesMask s → Stops self.old x s f) }
+    {
+        let place = self.next;
+        let word = self.expect(Kind::Mask)?;
+        Ok(self.scope.booleans_in(content(word), place)?)
+    }
+
+    // The two masks of a condition.
+    pub(crate) fn condition(&mut self) -> Result<(), RecordFault>
+        ensures { MatchResult result (λ _. (x : Context) → Goes self.old x onesMask self.new (after_condition x.section)) (λ f. (x : Context) → Stops self.old x onesMask f) }
+    {
+        self.mask()?;
+        self.mask()?;
+        Ok(())
+    }
+
+    // The clocks that a command resets.
+    fn reset(&mut self) -> Result<u32, RecordFault>
+        ensures { MatchResult result (λ m. (m < 2 ^ 15) × ((x : Context) → Goes self.old x resetMask self.new (owing (count_ones m)))) (λ f. (x : Context) → Stops self.old x resetMask f) }
+    {
+        let place = self.next;
+        let word = self.expect(Kind::Reset)?;
+        Ok(self.scope.clocks_in(content(word), place)?)
+    }
+
+    // What a command sets and clears, and the clocks that it resets.
+    pub(crate) fn effects(&mut self) -> Result<u32, RecordFault>
+        ensures { MatchResult result (λ m. (m < 2 ^ 15) × ((x : Context) → Goes self.old x setMask self.new (owing (count_ones m)))) (λ f. (x : Context) → Stops self.old x setMask f) }
+    {
+        let set = self.mask()?;
+        let place = self.next;
+        let clear = self.mask()?;
+        if clear & set != 0 {
+            return Err(RecordFault::SetAndClear(place));
+        }
+        self.reset()
+    }
+
+    // A number that is at least `least`.
+    fn number(&mut self, least: i32) -> Result<i32, RecordFault>
+        ensures { MatchResult result (λ v. Number self.old least v self.new) (λ f. (x : Context) (s : Slot) → TakesNumber least s → Stops self.old x s f) }
+    {
+        let place = self.next;
+        let word = self.expect(Kind::Number)?;
+        Ok(number_in(word, least, place)?)
+    }
+
+    // The numbers of a reset.
+    pub(crate) fn resets(&mut self, count: u32) -> Result<(), RecordFault>
+        ensures { MatchResult result (λ _. (x : Context) → Goes self.old x (owing count) self.new (atomOr 0)) (λ f. (x : Context) → Stops self.old x (owing count) f) }
+    {
+        for _ in 0..count {
+            self.number(0)?;
+        }
+        Ok(())
+    }
+
+    // An atom and its number, after `count` others of their record: whether one came next.
+    fn atom(&mut self, urgent: bool, count: usize) -> Result<bool, RecordFault>
+        ensures { MatchResult result (λ some. AtomTaken self.old urgent count self.new some) (λ f. (x : Context) → x.urgent ≡ urgent → Stops self.old x (atomOr count) f) }
+    {
+        let place = self.next;
+        let Some(word) = self.take(Kind::Atom) else {
+            return Ok(false);
+        };
         self.scope.clocks_of(word, place)?;
         if urgent {
             return Err(RecordFault::UrgentAtom(place));
@@ -217,33 +226,28 @@ impl Text<'_> {
         if count >= ATOMS {
             return Err(RecordFault::Surplus(place));
         }
-        self.number(k + 1, -GREATEST)?;
+        self.number(-GREATEST)?;
+        Ok(true)
+    }
+
+    // The atoms of a record. They end where the next word is no atom, so the count is no index of a `for`.
+    pub(crate) fn atoms(&mut self, urgent: bool) -> Result<(), RecordFault>
+        ensures { Walks self.old (atomOr 0) self.new between (λ x. x.urgent ≡ urgent) result }
+    {
+        let mut count = 0;
+        while self.atom(urgent, count)? {
+            count += 1;
+        }
         Ok(())
     }
 
-    // The atoms of a record from a word on: the place of the word after them.
-    pub(crate) fn atoms(&self, from: usize, urgent: bool) -> Result<usize, RecordFault>
-        requires { from < 100 }
-        ensures { MatchResult result (λ k. (k < 300) × ((x : Context) → x.urgent ≡ urgent → Goes self.now x (atomOr 0) from between k)) (λ f. (x : Context) → x.urgent ≡ urgent → Stops self.now x (atomOr 0) from f) }
+    // The record ends here: the next word continues none.
+    pub(crate) fn boundary(&self) -> Result<(), RecordFault>
+        ensures { MatchResult result (λ _. continued (words_of self.now) ≡ 0) (λ f. (x : Context) (s : Slot) → BeginsNext s → Stops self.now x s f) }
     {
-        let mut k = from;
-        let mut count = 0;
-        while let Some(word) = self.atom_at(k) {
-            self.atom(word, k, urgent, count)?;
-            k += 2;
-            count += 1;
+        if word_at(self.bytes, 0).is_some_and(continues) {
+            return Err(RecordFault::Misplaced(self.next));
         }
-        Ok(k)
-    }
-
-    // A record ends before the word at k: that word continues none.
-    pub(crate) fn boundary(&self, k: usize) -> Result<(), RecordFault>
-        requires { k < 1000 }
-        ensures { MatchResult result (λ _. continued (drop k (words_of self.now)) ≡ 0) (λ f. (x : Context) (s : Slot) → BeginsNext s → Stops self.now x s k f) }
-    {
-        match word_at(self.bytes, k) {
-            Some(word) if continues(word) => Err(RecordFault::Misplaced(self.place(k))),
-            _ => Ok(()),
-        }
+        Ok(())
     }
 }

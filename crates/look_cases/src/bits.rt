@@ -2,7 +2,7 @@
 use crate::case::Case;
 use crate::edit::Edit::Put;
 
-const CASES: &[Case] = &[
+pub static CASES: &[Case] = &[
     Case("start with bit 24", &[Put(1, 0x2100_0000)], &[]),
     Case("start with bit 27", &[Put(1, 0x2800_0000)], &[]),
     Case("invariant with bit 0", &[Put(2, 0x6000_0001)], &[]),
@@ -48,7 +48,3 @@ const CASES: &[Case] = &[
     Case("last zone's atom with bit 27", &[], &[Put(9, 0x9800_0001)]),
     Case("strict atom in a zone", &[], &[Put(2, 0x9000_0110)]),
 ];
-
-pub fn cases() -> &'static [Case] {
-    CASES
-}

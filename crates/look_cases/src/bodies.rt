@@ -2,7 +2,7 @@
 use crate::case::Case;
 use crate::edit::Edit::{Insert, Put, Remove, Repeat};
 
-const CASES: &[Case] = &[
+pub static CASES: &[Case] = &[
     Case("mask after the start", &[Insert(2, &[0x4000_0000])], &[]),
     Case("invariant with no mask", &[Remove(3, 2)], &[]),
     Case("invariant with one mask", &[Remove(4, 1)], &[]),
@@ -94,7 +94,3 @@ const CASES: &[Case] = &[
     Case("bad record with one mask", &[Remove(32, 1)], &[]),
     Case("bad record without atoms", &[Remove(33, 2)], &[]),
 ];
-
-pub fn cases() -> &'static [Case] {
-    CASES
-}

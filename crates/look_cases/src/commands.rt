@@ -2,7 +2,7 @@
 use crate::case::Case;
 use crate::edit::Edit::{Put, Remove, Words};
 
-const CASES: &[Case] = &[
+pub static CASES: &[Case] = &[
     // Set and clear masks: question 9.
     Case(
         "set and clear share a Boolean",
@@ -120,7 +120,3 @@ const CASES: &[Case] = &[
         &[],
     ),
 ];
-
-pub fn cases() -> &'static [Case] {
-    CASES
-}

@@ -1,6 +1,7 @@
 // A file while it is edited.
 use crate::edit::Edit;
 use std::alloc::{AllocError, Global};
+use written::{bytes, end_after};
 
 // The words but for the last, the last word where it is not the right end, and how many bytes are kept.
 #[derive(Drop)]
@@ -9,14 +10,6 @@ pub struct Draft {
     words: Vec<u32>,
     end: Option<u32>,
     keep: usize,
-}
-
-// An end that says how many words stand before it.
-fn end_after(words: usize) -> u32 {
-    match u32::try_from(words) {
-        Ok(count) => 0xF000_0000 | count,
-        Err(_) => 0xF000_0000,
-    }
 }
 
 impl Draft {
@@ -74,12 +67,8 @@ impl Draft {
 
     // The bytes of the file, each word's most significant byte first.
     pub fn bytes(&self) -> Result<Vec<u8>, AllocError> {
-        let mut bytes = Vec::new(self.heap);
-        for word in self.words.iter() {
-            bytes.extend_from_slice(&word.to_be_bytes())?;
-        }
         let end = self.end.unwrap_or(end_after(self.words.len()));
-        bytes.extend_from_slice(&end.to_be_bytes())?;
+        let mut bytes = bytes(self.heap, &self.words, end)?;
         bytes.truncate(self.keep);
         Ok(bytes)
     }

@@ -3,7 +3,7 @@ use crate::case::Case;
 use crate::edit::Edit::{End, Insert, Keep, Remove, Repeat, Words};
 use crate::records::{HEAD_AND_ZONE, ONE_OF_EACH};
 
-const CASES: &[Case] = &[
+pub static CASES: &[Case] = &[
     Case(
         "model of a head and an end that counts 2",
         &[Words(&[0x1000_0021]), End(0xF000_0002)],
@@ -52,7 +52,3 @@ const CASES: &[Case] = &[
         ],
     ),
 ];
-
-pub fn cases() -> &'static [Case] {
-    CASES
-}

@@ -3,7 +3,7 @@ use crate::case::Case;
 use crate::edit::Edit::{Insert, Put, Words};
 use crate::records::{BAD, COMMAND, INVARIANT};
 
-const CASES: &[Case] = &[
+pub static CASES: &[Case] = &[
     Case(
         "24 Booleans",
         &[Put(0, 0x1000_0038)],
@@ -72,7 +72,3 @@ const CASES: &[Case] = &[
     Case("list's head with bit 27", &[], &[Put(0, 0x1800_0021)]),
     Case("list's first word a zone", &[], &[Put(0, 0x8000_0000)]),
 ];
-
-pub fn cases() -> &'static [Case] {
-    CASES
-}

@@ -3,7 +3,7 @@ use crate::case::Case;
 use crate::edit::Edit::{Insert, Keep, Put, Remove, Repeat, Words};
 use crate::records::{HEAD_AND_ZONE, ONE_OF_EACH};
 
-const CASES: &[Case] = &[
+pub static CASES: &[Case] = &[
     // The files as they are.
     Case("the valve", &[], &[]),
     // The model's.
@@ -138,7 +138,3 @@ const CASES: &[Case] = &[
         ],
     ),
 ];
-
-pub fn cases() -> &'static [Case] {
-    CASES
-}

@@ -3,7 +3,7 @@ use crate::case::Case;
 use crate::edit::Edit::{Insert, Repeat, Words};
 use crate::records::{BAD, COMMAND, INVARIANT};
 
-const CASES: &[Case] = &[
+pub static CASES: &[Case] = &[
     // As many records as there may be, and one more.
     Case("32 invariants", &[Repeat(2, 5, 30)], &[]),
     Case("33 invariants", &[Repeat(2, 5, 31)], &[]),
@@ -76,7 +76,3 @@ const CASES: &[Case] = &[
     ),
     Case("65 atoms in the last zone", &[], &[Repeat(7, 2, 63)]),
 ];
-
-pub fn cases() -> &'static [Case] {
-    CASES
-}

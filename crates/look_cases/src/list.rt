@@ -3,7 +3,7 @@ use crate::case::Case;
 use crate::edit::Edit::{Insert, Put, Remove};
 use crate::records::{BAD, COMMAND, INVARIANT};
 
-const CASES: &[Case] = &[
+pub static CASES: &[Case] = &[
     Case("start in the list", &[], &[Insert(1, &[0x2000_0000])]),
     Case("invariant in the list", &[], &[Insert(1, INVARIANT)]),
     Case("command in the list", &[], &[Insert(6, COMMAND)]),
@@ -54,7 +54,3 @@ const CASES: &[Case] = &[
     ),
     Case("zones without atoms", &[], &[Remove(7, 4), Remove(2, 4)]),
 ];
-
-pub fn cases() -> &'static [Case] {
-    CASES
-}

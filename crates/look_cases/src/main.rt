@@ -34,24 +34,23 @@ fn show(rt: &HostRuntime, case: &Case) -> io::Result<()> {
     println!(rt; "{name}: {line}")
 }
 
-fn show_all(rt: &HostRuntime, cases: &[Case]) -> io::Result<()> {
-    for case in cases {
-        show(rt, case)?;
+fn main(rt: HostRuntime) -> io::Result<()> {
+    let all = [
+        lengths::CASES,
+        ends::CASES,
+        heads::CASES,
+        order::CASES,
+        bodies::CASES,
+        list::CASES,
+        bits::CASES,
+        names::CASES,
+        numbers::CASES,
+        commands::CASES,
+        limits::CASES,
+        several::CASES,
+    ];
+    for case in all.into_iter().flatten() {
+        show(&rt, case)?;
     }
     Ok(())
-}
-
-fn main(rt: HostRuntime) -> io::Result<()> {
-    show_all(&rt, lengths::cases())?;
-    show_all(&rt, ends::cases())?;
-    show_all(&rt, heads::cases())?;
-    show_all(&rt, order::cases())?;
-    show_all(&rt, bodies::cases())?;
-    show_all(&rt, list::cases())?;
-    show_all(&rt, bits::cases())?;
-    show_all(&rt, names::cases())?;
-    show_all(&rt, numbers::cases())?;
-    show_all(&rt, commands::cases())?;
-    show_all(&rt, limits::cases())?;
-    show_all(&rt, several::cases())
 }

@@ -2,7 +2,7 @@
 use crate::case::Case;
 use crate::edit::Edit::{Put, Words};
 
-const CASES: &[Case] = &[
+pub static CASES: &[Case] = &[
     // Booleans that are not known.
     Case("start with the known Boolean", &[Put(1, 0x2000_0001)], &[]),
     Case("start with an unknown Boolean", &[Put(1, 0x2000_0002)], &[]),
@@ -213,7 +213,3 @@ const CASES: &[Case] = &[
         &[Words(&[0x1000_0001, 0x8000_0000, 0x9000_0010, 0xA800_0000])],
     ),
 ];
-
-pub fn cases() -> &'static [Case] {
-    CASES
-}

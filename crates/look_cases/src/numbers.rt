@@ -3,7 +3,7 @@ use crate::case::Case;
 use crate::edit::Edit::{Insert, Put, Remove, Repeat, Words};
 use crate::records::{HEAD_AND_ZONE, ONE_OF_EACH};
 
-const CASES: &[Case] = &[
+pub static CASES: &[Case] = &[
     Case("invariant's number 1,000,000", &[Put(6, 0xA80F_4240)], &[]),
     Case("invariant's number 1,000,001", &[Put(6, 0xA80F_4241)], &[]),
     Case("invariant's number -1,000,000", &[Put(6, 0xA7F0_BDC0)], &[]),
@@ -94,7 +94,3 @@ const CASES: &[Case] = &[
         ],
     ),
 ];
-
-pub fn cases() -> &'static [Case] {
-    CASES
-}

@@ -3,7 +3,7 @@ use crate::case::Case;
 use crate::edit::Edit::{Insert, Put, Remove, Words};
 use crate::records::{COMMAND, INVARIANT};
 
-const CASES: &[Case] = &[
+pub static CASES: &[Case] = &[
     // The order of the model's records.
     Case("no start", &[Remove(1, 1)], &[]),
     Case("second head", &[Insert(1, &[0x1000_0021])], &[]),
@@ -130,7 +130,3 @@ const CASES: &[Case] = &[
     ),
     Case("kind 14 in place of a reset", &[Put(17, 0xE000_0001)], &[]),
 ];
-
-pub fn cases() -> &'static [Case] {
-    CASES
-}

@@ -3,7 +3,7 @@ use crate::case::Case;
 use crate::edit::Edit::{End, Insert, Keep, Put, Remove, Repeat, Words};
 use crate::records::{HEAD_AND_ZONE, INVARIANT};
 
-const CASES: &[Case] = &[
+pub static CASES: &[Case] = &[
     // The first question that has a no, of those to the file.
     Case(
         "too long and no multiple of four and without an end",
@@ -214,7 +214,3 @@ const CASES: &[Case] = &[
     ),
     Case("neither a model nor a list", &[Keep(0)], &[Keep(0)]),
 ];
-
-pub fn cases() -> &'static [Case] {
-    CASES
-}

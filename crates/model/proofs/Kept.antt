@@ -1,16 +1,17 @@
 -- The records of a kind, word by word. Assumes nothing.
-use Rattle.std.proofs.Common.{◌≡◌, ℕ, zero, suc, ◌+◌, ◌-◌, ◌*◌, ◌<◌, ◌≤◌, true, false, eqb, List, [], ◌∷◌, map, length, take, drop, Some, None, sym, refl, ap, ◌∙◌, ⊎_elim, arith, length-drop}
-use Rattle.std.proofs.lemmas.Bool.{cases_Bool, cond_both, ne_eqb, eq-eqb}
+use Rattle.std.proofs.Common.{Bool, ◌==◌, MatchOption, slice_index, nat_lt, subst, ◌≡◌, ℕ, suc, ◌+◌, ◌*◌, ◌<◌, ◌≤◌, true, false, eqb, List, [], ◌∷◌, map, length, take, drop, sym, refl, ap, ◌∙◌, ⊎_elim, arith, length-drop}
+use Rattle.std.proofs.lemmas.Bool.{cases_Bool, cond_both, ne_eqb, eq-eqb, eqb-true, eqb-false, ltb-true, ltb-false}
 use Rattle.format.specs.Words.{kind, continues, continued}
 use Rattle.format.specs.Syntax.{records, of_kind}
-use Rattle.std.specs.List.{slice_get}
-use Rattle.std.proofs.lemmas.List.{drop-take, drop-drop}
+use Rattle.std.specs.List.{prefix_len, position, position_or_len}
+use Rattle.std.proofs.lemmas.List.{drop-take, drop-drop, length-map}
 use Rattle.format.specs.Words.{words}
 use Rattle.format.proofs.Cuts.{words_drop, words_take, length_words}
-use Rattle.model.specs.Records.{having, Begins, First, Next}
+use Rattle.model.specs.Records.{Begins}
+use Rattle.model.specs.Records.{having, First, Next}
 
 -- a word of another kind begins no record of this kind
-pub having_skip : (k w : ℕ) (ws : List ℕ) → (kind w ≡ k → ⊥) → having k (w ∷ ws) ≡ having k ws
+having_skip : (k w : ℕ) (ws : List ℕ) → (kind w ≡ k → ⊥) → having k (w ∷ ws) ≡ having k ws
 unfolding records of_kind
 having_skip k w ws other =
     ⊎_elim
@@ -19,12 +20,12 @@ having_skip k w ws other =
     (cases_Bool (continues w))
 
 -- a word of this kind that begins a record
-pub having_hit : (k w : ℕ) (ws : List ℕ) → kind w ≡ k → continues w ≡ false → having k (w ∷ ws) ≡ (w ∷ take (continued ws) ws) ∷ having k ws
+having_hit : (k w : ℕ) (ws : List ℕ) → kind w ≡ k → continues w ≡ false → having k (w ∷ ws) ≡ (w ∷ take (continued ws) ws) ∷ having k ws
 unfolding records of_kind
 having_hit k w ws is begins = let n : eqb (kind w) k ≡ true = eq-eqb _ _ is in rw begins (rw n refl)
 
 -- the words that continue a record begin none
-pub records_past : (ws : List ℕ) → records (drop (continued ws) ws) ≡ records ws
+records_past : (ws : List ℕ) → records (drop (continued ws) ws) ≡ records ws
 unfolding records continued
 records_past [] = refl
 records_past (w ∷ ws) =
@@ -34,29 +35,58 @@ records_past (w ∷ ws) =
     (cases_Bool (continues w))
 
 -- a word that stands at a place is one of them
-pub standing : (p : ℕ) (ws : List ℕ) (w : ℕ) (more : List ℕ) → drop p ws ≡ w ∷ more → p < length ws
+standing : (p : ℕ) (ws : List ℕ) (w : ℕ) (more : List ℕ) → drop p ws ≡ w ∷ more → p < length ws
 standing p ws w more e = omega (arith, length-drop p ws, ap length e)
 
--- no record of this kind begins at the word at p
-pub having_next : (k p w : ℕ) (ws : List ℕ) → drop p ws ≡ w ∷ drop (p + 1) ws → (kind w ≡ k → ⊥) → having k (drop p ws) ≡ having k (drop (p + 1) ws)
-having_next k p w ws e other = ap (having k) e ∙ having_skip k w (drop (p + 1) ws) other
+-- ---- the first word of this kind, where there is one
 
-pub having_nothing : (k p : ℕ) (ws : List ℕ) → drop p ws ≡ [] → having k (drop p ws) ≡ []
-unfolding records of_kind
-having_nothing k p ws e = ap (having k) e
+module _ (k : ℕ) where
+  abbrev is_kind : ℕ → Bool
+  is_kind w = kind w == k
 
--- how many words continue a record, from one word on and from the next
-pub continued_more : (p w : ℕ) (ws : List ℕ) → drop p ws ≡ w ∷ drop (p + 1) ws → continues w ≡ true → continued (drop p ws) ≡ suc (continued (drop (p + 1) ws))
+  first_here : (w : ℕ) (ws : List ℕ) → kind w ≡ k → First k (w ∷ ws) 0
+  first_here w ws is = record { word = w; stands = refl; is = is; before = refl }
+
+  first_later : (w p : ℕ) (ws : List ℕ) → (kind w ≡ k → ⊥) → First k ws p → First k (w ∷ ws) (suc p)
+  first_later w p ws other f = record {
+    word = f.word;
+    stands = let e : suc p + 1 ≡ suc (p + 1) = omega arith in rw e f.stands;
+    is = f.is;
+    before = having_skip k w ws other ∙ f.before;
+  }
+
+  none_of_kind : (ws : List ℕ) → length ws ≤ position_or_len is_kind ws → having k ws ≡ []
+  unfolding records of_kind
+  none_of_kind [] e = refl
+  none_of_kind (w ∷ ws) e =
+      ⊎_elim
+      (λ (is : is_kind w ≡ true). let here : position_or_len is_kind (w ∷ ws) ≡ 0 = rw is refl in absurd (omega arith))
+      (λ (not_is : is_kind w ≡ false). let there : position_or_len is_kind (w ∷ ws) ≡ 1 + position_or_len is_kind ws = rw not_is refl in having_skip k w ws (eqb-false _ _ not_is) ∙ none_of_kind ws (omega arith))
+      (cases_Bool (is_kind w))
+
+  first_of_kind : (ws : List ℕ) → position_or_len is_kind ws < length ws → First k ws (position_or_len is_kind ws)
+  first_of_kind [] e = absurd (omega arith)
+  first_of_kind (w ∷ ws) e =
+      ⊎_elim
+      (λ (is : is_kind w ≡ true). let here : position_or_len is_kind (w ∷ ws) ≡ 0 = rw is refl in subst (First k (w ∷ ws)) (sym here) (first_here w ws (eqb-true _ _ is)))
+      (λ (not_is : is_kind w ≡ false).
+      let there : position_or_len is_kind (w ∷ ws) ≡ 1 + position_or_len is_kind ws = rw not_is refl in
+      let next : suc (position_or_len is_kind ws) ≡ position_or_len is_kind (w ∷ ws) = omega arith in
+      subst (First k (w ∷ ws)) next (first_later w _ ws (eqb-false _ _ not_is) (first_of_kind ws (omega arith))))
+      (cases_Bool (is_kind w))
+
+  pub first_is : (ws : List ℕ) → MatchOption (position is_kind ws) (having k ws ≡ []) (λ p. First k ws p)
+  first_is ws =
+      ⊎_elim
+      (λ (some : nat_lt (position_or_len is_kind ws) (length ws) ≡ true). rw some (first_of_kind ws (ltb-true _ _ some)))
+      (λ (none : nat_lt (position_or_len is_kind ws) (length ws) ≡ false). rw none (none_of_kind ws (ltb-false _ _ none)))
+      (cases_Bool (nat_lt (position_or_len is_kind ws) (length ws)))
+
+-- how many words continue a record, as a chain counts them
+pub continued_is : (ws : List ℕ) → prefix_len continues ws ≡ continued ws
 unfolding continued
-continued_more p w ws e more = ap continued e ∙ rw more refl
-
-pub continued_end : (p w : ℕ) (ws : List ℕ) → drop p ws ≡ w ∷ drop (p + 1) ws → continues w ≡ false → continued (drop p ws) ≡ 0
-unfolding continued
-continued_end p w ws e other = ap continued e ∙ rw other refl
-
-pub continued_nothing : (p : ℕ) (ws : List ℕ) → drop p ws ≡ [] → continued (drop p ws) ≡ 0
-unfolding continued
-continued_nothing p ws e = ap continued e
+continued_is [] = refl
+continued_is (w ∷ ws) = let rest = continued_is ws in grind arith
 
 continued_le : (ws : List ℕ) → continued ws ≤ length ws
 unfolding continued
@@ -64,8 +94,12 @@ continued_le [] = omega arith
 continued_le (w ∷ ws) = let l = continued_le ws in cond_both (continues w) (suc (continued ws)) 0 (λ n. n ≤ suc (length ws)) (λ _. omega arith) (λ _. omega arith)
 
 -- the record that begins at p, and all that follows it, are there
-pub record_there : (k p : ℕ) (ws : List ℕ) → First k ws p → p + 1 + continued (drop (p + 1) ws) ≤ length ws
+record_there : (k p : ℕ) (ws : List ℕ) → First k ws p → p + 1 + continued (drop (p + 1) ws) ≤ length ws
 record_there k p ws f = omega (arith, standing p ws _ _ f.stands, continued_le (drop (p + 1) ws), length-drop (p + 1) ws)
+
+-- the record that begins at p, and all that stands before it, fit the bytes
+pub record_fits : (k p n : ℕ) (bs : List ℕ) → First k (words bs) p → n ≡ continued (drop (p + 1) (words bs)) → 4 * (p + 1 + n) ≤ length bs
+record_fits k p n bs f is = omega (arith, record_there k p (words bs) f, length_words bs)
 
 -- the words of a record that begins at p and has n words more
 part_words : (p n : ℕ) (bs : List ℕ) (w : ℕ) → drop p (words bs) ≡ w ∷ drop (p + 1) (words bs) → words (drop (4 * p) (take (4 * (p + suc n)) bs)) ≡ w ∷ take n (drop (p + 1) (words bs))
@@ -90,38 +124,18 @@ module _ (k p n : ℕ) (bs part rest : List ℕ) (begins : Begins k) (f : First 
     others : having k (drop (p + 1) (words bs)) ≡ having k (words rest)
     others = sym (rest_having k p (words bs)) ∙ ap (λ (l : ℕ). having k (drop (p + 1 + l) (words bs))) (sym is) ∙ ap (having k) (sym (words_drop (p + 1 + n) bs)) ∙ ap (λ (l : List ℕ). having k (words l)) (sym back)
 
--- ---- the n-th of some records
+-- ---- how many they are
 
-pub nth_next : {X : Type 0} (l more : List X) (x : X) (n : ℕ) → l ≡ x ∷ more → 0 < n → slice_get l n ≡ slice_get more (n - 1)
-nth_next l more x zero e some = absurd (omega arith)
-nth_next l more x (suc n) e some = let back : n ≡ suc n - 1 = omega arith in rw e (ap (slice_get more) back)
+few_records : (ws : List ℕ) → length (records ws) ≤ length ws
+unfolding records
+few_records [] = omega arith
+few_records (w ∷ ws) = let l = few_records ws in cond_both (continues w) (records ws) ((w ∷ take (continued ws) ws) ∷ records ws) (λ r. length r ≤ suc (length ws)) (λ _. omega arith) (λ _. omega arith)
 
-pub nth_first : {X : Type 0} (l more : List X) (x : X) → l ≡ x ∷ more → slice_get l 0 ≡ Some x
-nth_first l more x e = rw e refl
+few_of_kind : (k : ℕ) (rs : List (List ℕ)) → length (of_kind k rs) ≤ length rs
+unfolding of_kind
+few_of_kind k [] = omega arith
+few_of_kind k (r ∷ rs) = let l = few_of_kind k rs in cond_both (kind (slice_index r 0) == k) (r ∷ of_kind k rs) (of_kind k rs) (λ l. length l ≤ suc (length rs)) (λ _. omega arith) (λ _. omega arith)
 
-pub nth_of_none : {X : Type 0} (l : List X) (n : ℕ) → l ≡ [] → slice_get l n ≡ None
-nth_of_none l n e = rw e refl
-
-pub nth_map_some : {X Y : Type 0} (f : X → Y) (l : List X) (n : ℕ) (x : X) → slice_get l n ≡ Some x → slice_get (map f l) n ≡ Some (f x)
-nth_map_some f [] n x e = let z : ◌≡◌ {A = ℕ} 0 1 = cc in absurd (omega arith)
-nth_map_some f (y ∷ ys) zero x e = let same : y ≡ x = cc in ap (λ z. Some (f z)) same
-nth_map_some f (y ∷ ys) (suc n) x e = nth_map_some f ys n x e
-
-pub nth_map_none : {X Y : Type 0} (f : X → Y) (l : List X) (n : ℕ) → slice_get l n ≡ None → slice_get (map f l) n ≡ None
-nth_map_none f [] n e = refl
-nth_map_none f (y ∷ ys) zero e = let z : ◌≡◌ {A = ℕ} 0 1 = cc in absurd (omega arith)
-nth_map_none f (y ∷ ys) (suc n) e = nth_map_none f ys n e
-
--- ---- the kinds that begin a record
-
-pub begins_invariant : Begins 6
-begins_invariant w e = rw e refl
-
-pub begins_command : Begins 3
-begins_command w e = rw e refl
-
-pub begins_bad : Begins 7
-begins_bad w e = rw e refl
-
-pub begins_zone : Begins 8
-begins_zone w e = rw e refl
+-- no more than there are bytes
+pub few : {X : Type 0} (said_by : List ℕ → X) (k : ℕ) (bs : List ℕ) {l : List X} → l ≡ map said_by (having k (words bs)) → length l ≤ length bs
+few said_by k bs e = omega (arith, ap length e, length-map (having k (words bs)) said_by, few_of_kind k (records (words bs)), few_records (words bs), length_words bs)

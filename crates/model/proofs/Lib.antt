@@ -1,3 +1,4 @@
+pub mod Answered
+pub mod Giving
 pub mod Kept
-pub mod Parts
 pub mod Resetting

@@ -1,56 +1,17 @@
-// The words of a record, and its atoms.
-ghost use Rattle.std.specs.Prelude.{◌≡◌, ◌<◌, [], take, drop, MatchOption, slice_index};
-ghost use Rattle.format.specs.Words.{words, value as value_of_lem};
+// The atoms of a record.
+ghost use Rattle.std.specs.Prelude.{◌≡◌};
+ghost use Rattle.std.specs.Iterator.{YieldsFirstBy, item_count};
 ghost use Rattle.format.specs.Syntax.{atom_of_words};
-ghost use Rattle.model.specs.Views.{atom_is, atoms_in, FirstAtom};
+ghost use Rattle.model.specs.Views.{atom_is, atoms_in};
 
-use format::{content, word_at};
-
-// The k-th word of some bytes, 0 past their end.
-pub(crate) fn word(bytes: &[u8], k: usize) -> u32
-    ensures { result ≡ slice_index (words bytes.now) k }
-{
-    word_at(bytes, k).unwrap_or(0)
-}
-
-// The number that a word stands for.
-pub(crate) fn value(word: u32) -> i32
-    ensures { result ≡ value_of_lem word }
-{
-    content(word) as i32 - 134_217_728
-}
-
-// The bytes after the first k words.
-pub(crate) fn past(bytes: &[u8], k: usize) -> &[u8]
-    requires { k < 1000 }
-    ensures { words result.now ≡ drop k (words bytes.now) }
-{
-    let cut = (4 * k).min(bytes.len());
-    &bytes[cut..]
-}
-
-// The bytes of the first k words.
-pub(crate) fn front(bytes: &[u8], k: usize) -> &[u8]
-    requires { k < 1000 }
-    ensures { words result.now ≡ take k (words bytes.now) }
-{
-    let cut = (4 * k).min(bytes.len());
-    &bytes[..cut]
-}
-
-// One atom: clock i minus clock j is at most d, or below d if strict. Clock 0 is no clock and always 0.
-#[derive(Clone, Copy)]
-pub struct Atom {
-    pub i: usize,
-    pub j: usize,
-    pub d: i32,
-    pub strict: bool,
-}
+use crate::words::Words;
+use bound::Atom;
+use format::value;
 
 // The atoms of a record, or the last ones of them.
-#[derive(Clone, Copy)]
+#[derive(Clone, Copy, Debug, PartialEq, Eq)]
 pub struct Atoms<'a> {
-    pub(crate) bytes: &'a [u8],
+    pub(crate) words: Words<'a>,
 }
 
 // An atom's word and its number.
@@ -65,16 +26,17 @@ fn atom_of(word: u32, number: u32) -> Atom
     }
 }
 
-impl<'a> Atoms<'a> {
-    // The first atom, and those after it.
-    pub fn split_first(self) -> Option<(Atom, Atoms<'a>)>
-        ensures { MatchOption result (atoms_in self.entry ≡ []) (λ x. FirstAtom self.entry x.0 x.1) }
-    {
-        let word = word_at(self.bytes, 0)?;
-        let number = word_at(self.bytes, 1)?;
-        let rest = Atoms {
-            bytes: &self.bytes[8..],
-        };
-        Some((atom_of(word, number), rest))
+impl Iterator for Atoms<'_> {
+    type Item = Atom;
+
+    ghost next_gives = { YieldsFirstBy atom_is atoms_in };
+
+    ghost remaining = { item_count atoms_in };
+
+    #[tactic(auto, unfolding(format::specs::Syntax::atoms_of))]
+    fn next(&mut self) -> Option<Atom> {
+        let word = self.words.next()?;
+        let number = self.words.next()?;
+        Some(atom_of(word, number))
     }
 }

@@ -3,14 +3,18 @@
 
 mod atoms;
 mod files;
+mod kind;
 mod order;
 mod records;
 mod resets;
 mod views;
+mod words;
 
-pub use atoms::{Atom, Atoms};
+pub use atoms::Atoms;
+pub use bound::Atom;
 pub use files::Files;
-pub use order::{Commands, Invariants, Zones};
+pub use order::{Bads, Commands, Invariants, Zones};
+pub use records::{Record, Records};
 pub use resets::{Reset, Resets};
 pub use views::{Command, Condition, Guarded, Zone};
 
@@ -48,25 +52,27 @@ mod tests {
 
     #[test]
     fn resets(rt: HostRuntime) -> Result<(), Fail> {
-        let Some((first, rest)) = (Command { bytes: &COMMAND }).resets().split_first() else {
+        let mut resets = (Command { bytes: &COMMAND }).resets();
+        let Some(first) = resets.next() else {
             assert!(rt; false);
             return Ok(());
         };
         assert_eq!(rt; first.clock, 1);
         assert_eq!(rt; first.number, 7);
-        let Some((second, rest)) = rest.split_first() else {
+        let Some(second) = resets.next() else {
             assert!(rt; false);
             return Ok(());
         };
         assert_eq!(rt; second.clock, 3);
         assert_eq!(rt; second.number, 9);
-        assert!(rt; rest.split_first().is_none());
+        assert!(rt; resets.next().is_none());
         Ok(())
     }
 
     #[test]
     fn atoms(rt: HostRuntime) -> Result<(), Fail> {
-        let Some((atom, rest)) = (Command { bytes: &COMMAND }).atoms().split_first() else {
+        let mut atoms = (Command { bytes: &COMMAND }).atoms();
+        let Some(atom) = atoms.next() else {
             assert!(rt; false);
             return Ok(());
         };
@@ -74,7 +80,7 @@ mod tests {
         assert_eq!(rt; atom.j, 2);
         assert_eq!(rt; atom.d, -2);
         assert!(rt; atom.strict);
-        assert!(rt; rest.split_first().is_none());
+        assert!(rt; atoms.next().is_none());
         Ok(())
     }
 }

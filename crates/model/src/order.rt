@@ -1,43 +1,55 @@
 // The records of a model and of a zone list, by number and in order.
-ghost use Rattle.std.specs.Prelude.{◌≡◌, [], length, Some, None, MatchOption};
+ghost use Rattle.std.specs.Prelude.{◌≡◌, length, Some, None, IfOk, MatchOption};
 ghost use Rattle.std.specs.List.{slice_get};
 ghost use Rattle.format.specs.LookOver.{look_over_answer};
+ghost use Rattle.format.specs.Faults.{outcome, counts};
+ghost use Rattle.format.specs.Ranges.{PassedFiles};
 ghost use Rattle.model.specs.Passing.{passes};
 ghost use Rattle.model.specs.Views.{guarded_in, command_in, zone_in};
-ghost use Rattle.model.specs.Files.{model_in, zones_in, invariants_left, commands_left, zones_left, FirstInvariant, FirstCommand, FirstZone};
+ghost use Rattle.model.specs.Files.{model_in, zones_in, invariants_left, commands_left, bads_left, zones_left};
 
-use crate::atoms::word;
 use crate::files::Files;
-use crate::records::{count_of, next_of, nth_of};
+use crate::kind::RecordKind;
+use crate::records::{Records, count_of, nth_of};
 use crate::views::{Command, Guarded, Zone};
-use format::{content, look_over};
+use crate::words::word;
+use format::{Fault, Summary, content, look_over};
 
-const COMMAND: u32 = 3;
+// All invariant records, all commands and all bad records of a model and all zones of a list, or the last ones of them.
+pub type Invariants<'a> = Records<'a, Guarded<'a>>;
 
-const INVARIANT: u32 = 6;
+pub type Commands<'a> = Records<'a, Command<'a>>;
 
-const BAD: u32 = 7;
+pub type Bads<'a> = Records<'a, Guarded<'a>>;
 
-const ZONE: u32 = 8;
+pub type Zones<'a> = Records<'a, Zone<'a>>;
 
 impl<'a> Files<'a> {
     // Looks two files over, and keeps them.
     pub fn new(model: &'a [u8], zones: &'a [u8]) -> Files<'a>
         ensures { (result.model.now ≡ model.now) × (result.zones.now ≡ zones.now) }
     {
-        let passed = look_over(model, zones).is_ok();
+        let answer = look_over(model, zones);
         Files {
             model,
             zones,
-            passed,
+            answer,
         }
+    }
+
+    // What the look-over answers: what was read, or the first fault.
+    pub fn summary(&self) -> Result<Summary, Fault>
+        ensures answer { outcome result ≡ look_over_answer self.now.model.now self.now.zones.now }
+        ensures within { IfOk result (λ s. PassedFiles self.now.model.now self.now.zones.now (counts s)) }
+    {
+        self.answer
     }
 
     // Whether they pass the look-over.
     pub fn passed(&self) -> bool
         ensures { result ≡ passes (look_over_answer self.now.model.now self.now.zones.now) }
     {
-        self.passed
+        self.summary().is_ok()
     }
 
     // How many clocks the model has.
@@ -58,117 +70,71 @@ impl<'a> Files<'a> {
     pub fn invariant(&self, n: usize) -> Option<Guarded<'a>>
         ensures { MatchOption result (slice_get (model_in self.now).invariants n ≡ None) (λ g. slice_get (model_in self.now).invariants n ≡ Some (guarded_in g)) }
     {
-        let bytes = nth_of(self.model, INVARIANT, n)?;
-        Some(Guarded { bytes })
+        nth_of(self.invariants(), n)
     }
 
     // The n-th command.
     pub fn command(&self, n: usize) -> Option<Command<'a>>
         ensures { MatchOption result (slice_get (model_in self.now).commands n ≡ None) (λ c. slice_get (model_in self.now).commands n ≡ Some (command_in c)) }
     {
-        let bytes = nth_of(self.model, COMMAND, n)?;
-        Some(Command { bytes })
+        nth_of(self.commands(), n)
     }
 
     // The n-th bad record.
     pub fn bad(&self, n: usize) -> Option<Guarded<'a>>
         ensures { MatchOption result (slice_get (model_in self.now).bads n ≡ None) (λ g. slice_get (model_in self.now).bads n ≡ Some (guarded_in g)) }
     {
-        let bytes = nth_of(self.model, BAD, n)?;
-        Some(Guarded { bytes })
+        nth_of(self.bads(), n)
     }
 
     // The n-th zone.
     pub fn zone(&self, n: usize) -> Option<Zone<'a>>
         ensures { MatchOption result (slice_get (zones_in self.now) n ≡ None) (λ z. slice_get (zones_in self.now) n ≡ Some (zone_in z)) }
     {
-        let bytes = nth_of(self.zones, ZONE, n)?;
-        Some(Zone { bytes })
+        nth_of(self.zones(), n)
     }
 
     // How many commands, bad records and zones there are.
     pub fn command_count(&self) -> usize
         ensures { result ≡ length (model_in self.now).commands }
     {
-        count_of(self.model, COMMAND)
+        count_of(self.commands())
     }
 
     pub fn bad_count(&self) -> usize
         ensures { result ≡ length (model_in self.now).bads }
     {
-        count_of(self.model, BAD)
+        count_of(self.bads())
     }
 
     pub fn zone_count(&self) -> usize
         ensures { result ≡ length (zones_in self.now) }
     {
-        count_of(self.zones, ZONE)
+        count_of(self.zones())
     }
 
-    // All invariant records, all commands, all zones.
+    // All invariant records, all commands, all bad records, all zones.
     pub fn invariants(&self) -> Invariants<'a>
         ensures { invariants_left result ≡ (model_in self.now).invariants }
     {
-        Invariants { bytes: self.model }
+        Records::new(self.model, RecordKind::INVARIANT)
     }
 
     pub fn commands(&self) -> Commands<'a>
         ensures { commands_left result ≡ (model_in self.now).commands }
     {
-        Commands { bytes: self.model }
+        Records::new(self.model, RecordKind::COMMAND)
+    }
+
+    pub fn bads(&self) -> Bads<'a>
+        ensures { bads_left result ≡ (model_in self.now).bads }
+    {
+        Records::new(self.model, RecordKind::BAD)
     }
 
     pub fn zones(&self) -> Zones<'a>
         ensures { zones_left result ≡ zones_in self.now }
     {
-        Zones { bytes: self.zones }
-    }
-}
-
-// The invariant records of a model, or the last ones of them.
-#[derive(Clone, Copy)]
-pub struct Invariants<'a> {
-    pub(crate) bytes: &'a [u8],
-}
-
-impl<'a> Invariants<'a> {
-    // The first one, and those after it.
-    pub fn split_first(self) -> Option<(Guarded<'a>, Invariants<'a>)>
-        ensures { MatchOption result (invariants_left self.entry ≡ []) (λ x. FirstInvariant self.entry x.0 x.1) }
-    {
-        let (bytes, rest) = next_of(self.bytes, INVARIANT)?;
-        Some((Guarded { bytes }, Invariants { bytes: rest }))
-    }
-}
-
-// The commands of a model, or the last ones of them.
-#[derive(Clone, Copy)]
-pub struct Commands<'a> {
-    pub(crate) bytes: &'a [u8],
-}
-
-impl<'a> Commands<'a> {
-    // The first one, and those after it.
-    pub fn split_first(self) -> Option<(Command<'a>, Commands<'a>)>
-        ensures { MatchOption result (commands_left self.entry ≡ []) (λ x. FirstCommand self.entry x.0 x.1) }
-    {
-        let (bytes, rest) = next_of(self.bytes, COMMAND)?;
-        Some((Command { bytes }, Commands { bytes: rest }))
-    }
-}
-
-// The zones of a list, or the last ones of them.
-#[derive(Clone, Copy)]
-pub struct Zones<'a> {
-    pub(crate) bytes: &'a [u8],
-}
-
-impl<'a> Zones<'a> {
-    // The first one, and those after it.
-    pub fn split_first(self) -> Option<(Zone<'a>, Zones<'a>)>
-        ensures { MatchOption result (zones_left self.entry ≡ []) (λ x. FirstZone self.entry x.0 x.1) }
-    {
-        let (bytes, rest) = next_of(self.bytes, ZONE)?;
-        Some((Zone { bytes }, Zones { bytes: rest }))
+        Records::new(self.zones, RecordKind::ZONE)
     }
 }

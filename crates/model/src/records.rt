@@ -1,50 +1,72 @@
 // The records of a kind in a file, one after another.
-ghost use Rattle.std.specs.Prelude.{◌≡◌, [], length, drop, Some, None, MatchOption};
-ghost use Rattle.std.specs.List.{slice_get};
-ghost use Rattle.format.specs.Words.{words, continued, continues as continues_of};
-ghost use Rattle.model.specs.Records.{having, Begins, First, Next};
+ghost use Rattle.std.specs.Prelude.{◌≡◌, ℕ, List, [], length, drop, slice_get, Some, None, MatchOption};
+ghost use Rattle.std.specs.Iterator.{YieldsFirstBy, item_count};
+ghost use Rattle.format.specs.Words.{words, continued};
+ghost use Rattle.format.specs.Kinds.{code};
+ghost use Rattle.model.specs.Records.{having, First, Next};
+ghost use Rattle.model.specs.Files.{left};
 
-use format::word_at;
+use crate::kind::RecordKind;
+use crate::words::Words;
+use format::continues;
+use std::marker::PhantomData;
 
-// The place of the first word of a kind.
-fn first_of(bytes: &[u8], kind: u32) -> Option<usize>
-    ensures { MatchOption result (having kind (words bytes.now) ≡ []) (λ p. First kind (words bytes.now) p) }
-{
-    let mut place = 0;
-    while let Some(word) = word_at(bytes, place) {
-        if word >> 28 == kind {
-            return Some(place);
-        }
-        place += 1;
-    }
-    None
+// A part of a file that is one record.
+pub trait Record<'a> {
+    // What records of this type say, by their words and as the code has them.
+    ghost Said: { Type 0 };
+
+    ghost said_by: { List ℕ → Said };
+
+    ghost says: { Self → Said };
+
+    // The record that has these bytes.
+    fn of(bytes: &'a [u8]) -> Self
+        ensures { says result ≡ said_by (words bytes.now) };
 }
 
-// Masks, resets, atoms and numbers continue a record.
-fn continues(word: u32) -> bool
-    ensures { result ≡ continues_of word }
+// The records of a kind in a file, or the last ones of them.
+#[derive(Clone, Copy, Debug, PartialEq, Eq)]
+pub struct Records<'a, R> {
+    pub(crate) kind: RecordKind,
+    pub(crate) bytes: &'a [u8],
+    pub(crate) of: PhantomData<R>,
+}
+
+impl<'a, R> Records<'a, R> {
+    // All records of a kind in a file.
+    pub(crate) fn new(bytes: &'a [u8], kind: RecordKind) -> Records<'a, R>
+        ensures { (result.kind ≡ kind) × (result.bytes.now ≡ bytes.now) }
+    {
+        Records {
+            kind,
+            bytes,
+            of: PhantomData,
+        }
+    }
+}
+
+// The place of the first word of a kind.
+fn first_of(bytes: &[u8], kind: RecordKind) -> Option<usize>
+    ensures { MatchOption result (having (code kind.kind) (words bytes.now) ≡ []) (λ p. First (code kind.kind) (words bytes.now) p) }
 {
-    matches!(word >> 28, 4 | 5 | 9 | 10)
+    Words::of(bytes).position(|word| kind.begins(word))
 }
 
 // How many words from a place on continue a record.
 fn continued_from(bytes: &[u8], from: usize) -> usize
     ensures { result ≡ continued (drop from (words bytes.now)) }
 {
-    let mut place = from;
-    while let Some(word) = word_at(bytes, place) {
-        if !continues(word) {
-            return place - from;
-        }
-        place += 1;
-    }
-    place - from
+    Words::of(bytes)
+        .past(from)
+        .take_while(|&word| continues(word))
+        .count()
 }
 
 // The first record of a kind, and the bytes after it.
-pub(crate) fn next_of<'a>(bytes: &'a [u8], kind: u32) -> Option<(&'a [u8], &'a [u8])>
-    requires { Begins kind }
-    ensures { MatchOption result (having kind (words bytes.now) ≡ []) (λ x. Next kind bytes.now x.0.now x.1.now) }
+#[tactic(auto, using(crate::proofs::Kept::record_fits))]
+fn next_of<'a>(bytes: &'a [u8], kind: RecordKind) -> Option<(&'a [u8], &'a [u8])>
+    ensures { MatchOption result (having (code kind.kind) (words bytes.now) ≡ []) (λ x. Next (code kind.kind) bytes.now x.0.now x.1.now) }
 {
     let first = first_of(bytes, kind)?;
     let after = first + 1 + continued_from(bytes, first + 1);
@@ -52,30 +74,30 @@ pub(crate) fn next_of<'a>(bytes: &'a [u8], kind: u32) -> Option<(&'a [u8], &'a [
     Some((&front[4 * first..], rest))
 }
 
-// The n-th record of a kind, counted from 0.
-pub(crate) fn nth_of<'a>(bytes: &'a [u8], kind: u32, n: usize) -> Option<&'a [u8]>
-    requires { Begins kind }
-    ensures { MatchOption result (slice_get (having kind (words bytes.now)) n ≡ None) (λ x. slice_get (having kind (words bytes.now)) n ≡ Some (words x.now)) }
-{
-    let mut rest = bytes;
-    for _ in 0..n {
-        let (_, unread) = next_of(rest, kind)?;
-        rest = unread;
+impl<'a, R: Record<'a>> Iterator for Records<'a, R> {
+    type Item = R;
+
+    ghost next_gives = { YieldsFirstBy R.says (left R.said_by) };
+
+    ghost remaining = { item_count (left R.said_by) };
+
+    fn next(&mut self) -> Option<R> {
+        let (part, rest) = next_of(self.bytes, self.kind)?;
+        self.bytes = rest;
+        Some(R::of(part))
     }
-    let (part, _) = next_of(rest, kind)?;
-    Some(part)
 }
 
-// How many records of a kind there are.
-pub(crate) fn count_of(bytes: &[u8], kind: u32) -> usize
-    requires { Begins kind }
-    ensures { result ≡ length (having kind (words bytes.now)) }
+// The n-th of some records, counted from 0.
+pub(crate) fn nth_of<'a, R: Record<'a> + Drop>(mut records: Records<'a, R>, n: usize) -> Option<R>
+    ensures { MatchOption result (slice_get (left R.said_by records.entry) n ≡ None) (λ x. slice_get (left R.said_by records.entry) n ≡ Some (R.says x)) }
 {
-    let mut rest = bytes;
-    let mut count = 0;
-    while let Some((_, unread)) = next_of(rest, kind) {
-        count += 1;
-        rest = unread;
-    }
-    count
+    records.nth(n)
+}
+
+// How many records there are.
+pub(crate) fn count_of<'a, R: Record<'a> + Drop>(records: Records<'a, R>) -> usize
+    ensures { result ≡ length (left R.said_by records.entry) }
+{
+    records.count()
 }

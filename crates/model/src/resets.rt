@@ -1,24 +1,26 @@
 // The clocks that a command resets, with their numbers.
-ghost use Rattle.std.specs.Prelude.{◌≡◌, [], MatchOption};
+ghost use Rattle.std.specs.Prelude.{◌≡◌, ◌-◌, ◌/◌, ◌%◌, ◌^◌, find, ◌==◌};
+ghost use Rattle.std.specs.List.{range_with_len};
+ghost use Rattle.std.specs.Iterator.{YieldsFirstBy, item_count};
 ghost use Rattle.format.specs.Words.{value as value_of_lem};
-ghost use Rattle.model.specs.Views.{reset_is, resets_in, FirstReset};
+ghost use Rattle.model.specs.Views.{reset_is, resets_in};
 
-use crate::atoms::value;
-use format::word_at;
+use crate::words::Words;
+use format::value;
 
 // A clock and the number that it gets.
-#[derive(Clone, Copy)]
+#[derive(Clone, Copy, Debug, PartialEq, Eq)]
 pub struct Reset {
     pub clock: usize,
     pub number: i32,
 }
 
-// The resets of a command from a clock on, lowest clock first. The mask's lowest bit is for this clock.
-#[derive(Clone, Copy)]
+// The resets of a command from a bit of its mask on, lowest clock first. Bit n is for clock n + 1.
+#[derive(Clone, Copy, Debug, PartialEq, Eq)]
 pub struct Resets<'a> {
-    pub(crate) clock: usize,
+    pub(crate) bit: u32,
     pub(crate) mask: u32,
-    pub(crate) numbers: &'a [u8],
+    pub(crate) numbers: Words<'a>,
 }
 
 // A clock and the number that this word stands for.
@@ -31,26 +33,24 @@ fn reset_of(clock: usize, number: u32) -> Reset
     }
 }
 
-impl<'a> Resets<'a> {
-    // The first reset, and those after it.
-    pub fn split_first(self) -> Option<(Reset, Resets<'a>)>
-        ensures { MatchOption result (resets_in self.entry ≡ []) (λ x. FirstReset self.entry x.0 x.1) }
-    {
-        let mut clock = self.clock;
-        let mut mask = self.mask;
-        while clock < 16 {
-            if mask % 2 == 1 {
-                let number = word_at(self.numbers, 0)?;
-                let rest = Resets {
-                    clock: clock + 1,
-                    mask: mask / 2,
-                    numbers: &self.numbers[4..],
-                };
-                return Some((reset_of(clock, number), rest));
-            }
-            clock += 1;
-            mask /= 2;
-        }
-        None
+// The lowest bit of a mask that is 1, from a bit on and below 15.
+fn next_bit(mask: u32, from: u32) -> Option<u32>
+    ensures { result ≡ find (λ bit. mask / 2 ^ bit % 2 == 1) (range_with_len from (15 - from)) }
+{
+    (from..15).find(|&bit| (mask >> bit) % 2 == 1)
+}
+
+impl Iterator for Resets<'_> {
+    type Item = Reset;
+
+    ghost next_gives = { YieldsFirstBy reset_is resets_in };
+
+    ghost remaining = { item_count resets_in };
+
+    fn next(&mut self) -> Option<Reset> {
+        let bit = next_bit(self.mask, self.bit)?;
+        let number = self.numbers.next()?;
+        self.bit = bit + 1;
+        Some(reset_of(bit as usize + 1, number))
     }
 }

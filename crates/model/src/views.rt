@@ -1,17 +1,22 @@
 // The records of a model and of a list, each a part of its file.
-ghost use Rattle.std.specs.Prelude.{◌≡◌, Decides, slice_index};
+ghost use Rattle.std.specs.Prelude.{◌≡◌, Decides, take, drop, slice_index};
+ghost use Rattle.std.specs.Int.Count.{ones};
 ghost use Rattle.format.specs.Words.{words, content as content_of};
+ghost use Rattle.format.specs.Syntax as said;
 ghost use Rattle.format.specs.Syntax.{condition_of_words};
+ghost use Rattle.model.specs.Views.{words_left};
 ghost use Rattle.model.specs.States.{ConditionHolds};
 ghost use Rattle.model.specs.Steps.{booleans_after_command};
 ghost use Rattle.model.specs.Views.{atoms_in, resets_in, condition_is, guarded_in, command_in, zone_in};
 
-use crate::atoms::{Atoms, front, past, word};
+use crate::atoms::Atoms;
+use crate::records::Record;
 use crate::resets::Resets;
+use crate::words::{Words, word};
 use format::content;
 
 // Every Boolean in ones is true, and every one in zeros is false. Boolean n is bit n.
-#[derive(Clone, Copy)]
+#[derive(Clone, Copy, Debug, PartialEq, Eq)]
 pub struct Condition {
     pub ones: u32,
     pub zeros: u32,
@@ -37,9 +42,21 @@ fn condition_of(bytes: &[u8]) -> Condition
 }
 
 // An invariant or a bad record.
-#[derive(Clone, Copy)]
+#[derive(Clone, Copy, Debug, PartialEq, Eq)]
 pub struct Guarded<'a> {
     pub(crate) bytes: &'a [u8],
+}
+
+impl<'a> Record<'a> for Guarded<'a> {
+    ghost Said = { said.Guarded };
+
+    ghost said_by = { said.guarded_of };
+
+    ghost says = { guarded_in };
+
+    fn of(bytes: &'a [u8]) -> Guarded<'a> {
+        Guarded { bytes }
+    }
 }
 
 impl<'a> Guarded<'a> {
@@ -53,15 +70,27 @@ impl<'a> Guarded<'a> {
         ensures { atoms_in result ≡ (guarded_in self.entry).atoms }
     {
         Atoms {
-            bytes: past(self.bytes, 3),
+            words: Words::of(self.bytes).past(3),
         }
     }
 }
 
 // A command.
-#[derive(Clone, Copy)]
+#[derive(Clone, Copy, Debug, PartialEq, Eq)]
 pub struct Command<'a> {
     pub(crate) bytes: &'a [u8],
+}
+
+impl<'a> Record<'a> for Command<'a> {
+    ghost Said = { said.Command };
+
+    ghost said_by = { said.command_of };
+
+    ghost says = { command_in };
+
+    fn of(bytes: &'a [u8]) -> Command<'a> {
+        Command { bytes }
+    }
 }
 
 impl<'a> Command<'a> {
@@ -86,38 +115,57 @@ impl<'a> Command<'a> {
         booleans - (booleans & clears) | sets
     }
 
-    // The clocks that it resets, and how many they are.
+    // The clocks that it resets.
     fn reset_mask(self) -> u32
         ensures { result ≡ content_of (slice_index (words self.entry.bytes.now) 5) }
     {
         content(word(self.bytes, 5))
     }
 
+    // The numbers of its resets, and the words of its atoms.
+    fn numbers_and_atoms(self) -> (Words<'a>, Words<'a>)
+        ensures numbers { words_left result.0 ≡ take (ones (content_of (slice_index (words self.entry.bytes.now) 5))) (drop 6 (words self.entry.bytes.now)) }
+        ensures atoms { words_left result.1 ≡ drop (ones (content_of (slice_index (words self.entry.bytes.now) 5))) (drop 6 (words self.entry.bytes.now)) }
+    {
+        let count = self.reset_mask().count_ones() as usize;
+        Words::of(self.bytes).past(6).split_at(count)
+    }
+
     pub fn resets(self) -> Resets<'a>
         ensures { resets_in result ≡ (command_in self.entry).resets }
     {
-        let mask = self.reset_mask();
+        let (numbers, _) = self.numbers_and_atoms();
         Resets {
-            clock: 1,
-            mask,
-            numbers: front(past(self.bytes, 6), mask.count_ones() as usize),
+            bit: 0,
+            mask: self.reset_mask(),
+            numbers,
         }
     }
 
     pub fn atoms(self) -> Atoms<'a>
         ensures { atoms_in result ≡ (command_in self.entry).atoms }
     {
-        let count = self.reset_mask().count_ones() as usize;
-        Atoms {
-            bytes: past(past(self.bytes, 6), count),
-        }
+        let (_, words) = self.numbers_and_atoms();
+        Atoms { words }
     }
 }
 
 // A zone of a list.
-#[derive(Clone, Copy)]
+#[derive(Clone, Copy, Debug, PartialEq, Eq)]
 pub struct Zone<'a> {
     pub(crate) bytes: &'a [u8],
+}
+
+impl<'a> Record<'a> for Zone<'a> {
+    ghost Said = { said.Zone };
+
+    ghost said_by = { said.zone_of };
+
+    ghost says = { zone_in };
+
+    fn of(bytes: &'a [u8]) -> Zone<'a> {
+        Zone { bytes }
+    }
 }
 
 impl<'a> Zone<'a> {
@@ -132,7 +180,7 @@ impl<'a> Zone<'a> {
         ensures { atoms_in result ≡ (zone_in self.entry).atoms }
     {
         Atoms {
-            bytes: past(self.bytes, 1),
+            words: Words::of(self.bytes).past(1),
         }
     }
 }

@@ -1,7 +1,6 @@
 -- The printed line of a look-over. Assumes nothing.
 use Rattle.std.specs.Prelude.{ℕ, List, ◌++◌, codes, decimal}
-use Rattle.format.specs.Places.{File}
-use Rattle.format.specs.Places.File.{model, zones}
+use Rattle.format.specs.Names.{file_name}
 use Rattle.format.specs.LookOver.{Outcome, Layer, Counts}
 use Rattle.format.specs.LookOver.Outcome.{pass, fault}
 use Rattle.format.specs.LookOver.Layer.{file_layer, record_layer, word_layer}
@@ -18,10 +17,6 @@ layer_at ToldWord = word_layer
 -- a report, as an outcome
 abbrev pub reported : Report → Outcome
 reported r = fault r.number (file_of r.file) r.word (layer_at r.layer)
-
-abbrev pub file_name : File → List ℕ
-file_name model = codes "model"
-file_name zones = codes "list"
 
 abbrev pub name_of : Layer → List ℕ
 name_of file_layer = codes "file"

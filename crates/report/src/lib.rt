@@ -2,10 +2,12 @@
 #![tactic(auto)]
 
 ghost use Rattle.std.specs.Prelude.{◌≡◌, Some};
-ghost use Rattle.format.specs.Faults.{counts, outcome, told, file_told, record_told, word_told};
+ghost use Rattle.format.specs.Faults.{counts, outcome, told, file_told};
 ghost use Rattle.format.specs.Reading.{file_of};
-ghost use Rattle.report.specs.Line.{listed, printed, reported, file_name, layer_name};
+ghost use Rattle.report.specs.Line.{listed, printed, reported, layer_name};
 
+use format::FileFault::Record;
+use format::RecordFault::Word;
 use format::{Fault, File, FileFault, RecordFault, Summary, WordFault};
 use std::fmt;
 
@@ -17,7 +19,7 @@ pub enum Layer {
     Word,
 }
 
-// A fault by its number, its file, the place of its word and its layer.
+// A fault by its number, its file, the place of its word and its layer. The number is what is printed, so it stays a number.
 #[derive(Clone, Copy, Debug, PartialEq, Eq)]
 pub struct Report {
     pub number: u8,
@@ -26,87 +28,54 @@ pub struct Report {
     pub layer: Layer,
 }
 
-fn word_report(fault: WordFault, file: File) -> Report
-    ensures { reported result ≡ word_told (file_of file) fault }
-{
-    let (number, word) = match fault {
-        WordFault::UnusedBits(word) => (6, word),
-        WordFault::UnknownName(word) => (7, word),
-        WordFault::OutOfRange(word) => (8, word),
-    };
-    Report {
-        number,
-        file,
-        word,
-        layer: Layer::Word,
-    }
-}
-
-fn record_report(fault: RecordFault, file: File) -> Report
-    ensures { reported result ≡ record_told (file_of file) fault }
-{
-    let (number, word) = match fault {
-        RecordFault::Misplaced(word) => (5, word),
-        RecordFault::SetAndClear(word) => (9, word),
-        RecordFault::UrgentAtom(word) => (10, word),
-        RecordFault::Surplus(word) => (11, word),
-        RecordFault::Word(fault) => return word_report(fault, file),
-    };
-    Report {
-        number,
-        file,
-        word,
-        layer: Layer::Record,
-    }
-}
-
-fn file_report(fault: FileFault, file: File) -> Report
-    ensures { reported result ≡ file_told (file_of file) fault }
-{
-    let (number, word) = match fault {
-        FileFault::TooLong => (1, 0),
-        FileFault::WrongLength => (2, 0),
-        FileFault::WrongEnd(word) => (3, word),
-        FileFault::WrongHead => (4, 0),
-        FileFault::TooManyChecks => (12, 0),
-        FileFault::Record(fault) => return record_report(fault, file),
-    };
-    Report {
-        number,
-        file,
-        word,
-        layer: Layer::File,
-    }
-}
-
 impl Report {
-    // The fault's number, file, word and layer.
-    pub fn of(fault: Fault) -> Report
-        ensures { reported result ≡ told fault }
+    // A fault's number, the place of its word and its layer, in the order of the numbers.
+    fn of_file(fault: FileFault, file: File) -> Report
+        ensures { reported result ≡ file_told (file_of file) fault }
     {
-        match fault {
-            Fault::Model(fault) => file_report(fault, File::Model),
-            Fault::List(fault) => file_report(fault, File::List),
+        let (number, word, layer) = match fault {
+            FileFault::TooLong => (1, 0, Layer::File),
+            FileFault::WrongLength => (2, 0, Layer::File),
+            FileFault::WrongEnd(word) => (3, word, Layer::File),
+            FileFault::WrongHead => (4, 0, Layer::File),
+            Record(RecordFault::Misplaced(word)) => (5, word, Layer::Record),
+            Record(Word(WordFault::UnusedBits(word))) => (6, word, Layer::Word),
+            Record(Word(WordFault::UnknownName(word))) => (7, word, Layer::Word),
+            Record(Word(WordFault::OutOfRange(word))) => (8, word, Layer::Word),
+            Record(RecordFault::SetAndClear(word)) => (9, word, Layer::Record),
+            Record(RecordFault::UrgentAtom(word)) => (10, word, Layer::Record),
+            Record(RecordFault::Surplus(word)) => (11, word, Layer::Record),
+            FileFault::TooManyChecks => (12, 0, Layer::File),
+        };
+        Report {
+            number,
+            file,
+            word,
+            layer,
         }
     }
 }
 
-fn name_of_file(file: File) -> &'static str
-    ensures { result.now ≡ file_name (file_of file) }
-{
-    match file {
-        File::Model => "model",
-        File::List => "list",
+impl From<Fault> for Report {
+    ghost from_gives = { λ f r. reported r ≡ told f };
+
+    fn from(fault: Fault) -> Report {
+        match fault {
+            Fault::Model(fault) => Report::of_file(fault, File::Model),
+            Fault::List(fault) => Report::of_file(fault, File::List),
+        }
     }
 }
 
-fn name_of_layer(layer: Layer) -> &'static str
-    ensures { result.now ≡ layer_name layer }
-{
-    match layer {
-        Layer::File => "file",
-        Layer::Record => "record",
-        Layer::Word => "word",
+impl fmt::Display for Layer {
+    ghost output = { λ l. Some (layer_name l) };
+
+    fn fmt<W: fmt::Write>(&self, f: &mut fmt::Formatter<W>) -> fmt::Result {
+        match *self {
+            Layer::File => write!(f, "file"),
+            Layer::Record => write!(f, "record"),
+            Layer::Word => write!(f, "word"),
+        }
     }
 }
 
@@ -120,14 +89,12 @@ impl fmt::Display for Report {
             word,
             layer,
         } = *self;
-        let file = name_of_file(file);
-        let layer = name_of_layer(layer);
         write!(f, "fault {number} {file} word {word} {layer}")
     }
 }
 
 // What was read of two files that passed, as `look` prints it.
-#[derive(Clone, Copy)]
+#[derive(Clone, Copy, Debug, PartialEq, Eq)]
 struct Read(Summary);
 
 impl fmt::Display for Read {
@@ -151,7 +118,7 @@ impl fmt::Display for Read {
 }
 
 // What `look` prints of an answer.
-#[derive(Clone, Copy)]
+#[derive(Clone, Copy, Debug, PartialEq, Eq)]
 pub struct Line(pub Result<Summary, Fault>);
 
 impl fmt::Display for Line {
@@ -164,7 +131,7 @@ impl fmt::Display for Line {
                 write!(f, "pass {read}")
             }
             Err(fault) => {
-                let report = Report::of(fault);
+                let report = Report::from(fault);
                 write!(f, "{report}")
             }
         }

@@ -1,17 +1,17 @@
--- From the answers of the checks to what settle answers. Assumes nothing.
-use Rattle.std.proofs.Common.{◌≡◌, ℕ, zero, suc, ◌<◌, Bool, true, false, leb, List, [], ◌∷◌, length, Some, None, Decides, Option, sym, refl, arith}
+-- A check in the order of checks is not refused where the files passed and the area is long enough. Assumes nothing.
+use Rattle.std.proofs.Common.{◌≡◌, ℕ, zero, suc, ◌<◌, ◌≤◌, Bool, true, leb, List, [], ◌∷◌, length, Some, None, Option, refl, arith}
 use Rattle.std.specs.List.{slice_get}
-use Rattle.std.proofs.lemmas.Bool.{true≢false}
-use Rattle.format.specs.Syntax.{Zone, Model, Guarded, Command as CommandOf}
+use Rattle.std.proofs.lemmas.Bool.{le-leb}
+use Rattle.format.specs.Syntax.{Zone}
 use Rattle.model.specs.declared.files.Files.{Files}
-use Rattle.model.specs.Files.{zones_in}
-use Rattle.checks.specs.Calls.{pass_over, refused_start, refused_zone, refused_record}
-use Rattle.checks.specs.Meanings.{Names, HoldsStart, BadCheck, CoversTime, CoversCommand}
+use Rattle.model.specs.Files.{model_in, zones_in}
+use Rattle.checks.specs.Passed.{pass_over}
+use Rattle.checks.specs.Calls.{refused_start, refused_zone, refused_record}
 use Rattle.checks.proofs.Lowest.{all_nth}
 use Rattle.sheet.specs.Order.{order}
-use Rattle.sheet.specs.Settling.{Decided, settled_by_zone, by_answer}
-use Rattle.sheet.specs.declared.check.Check.{Check}
-use Rattle.sheet.specs.declared.check.Check.TheVariants.{Start, Bad, Time, Command}
+use Rattle.checks.specs.Decisions.{refused_check}
+use Rattle.checks.specs.declared.check.Check.{Check}
+use Rattle.checks.specs.declared.check.Check.TheVariants.{Start, Bad, Time, Command}
 use Rattle.sheet.proofs.Ordering.{all_in_order}
 
 pub nth_there : {X : Type 0} (l : List X) (n : ℕ) → n < length l → (x : X) × (slice_get l n ≡ Some x)
@@ -47,21 +47,20 @@ module _ (p : Files) (passed : pass_over p ≡ true) where
     pub record_made : {X : Type 0} (l : List X) (k : ℕ) (x : X) → slice_get l k ≡ Some x → refused_record p area n l k ≡ None
     record_made l k x e = rw zone_made (rw e refl)
 
--- ---- answers
+  -- the zone and the record of a check are there, and the area is long enough
+  pub check_made : (area : ℕ) → 578 ≤ area → (c : Check) → InRange (length (model_in p).bads) (length (model_in p).commands) (length (zones_in p)) c → refused_check p area c ≡ None
+  check_made area enough Start r = start_made
+  check_made area enough (Bad n k) r =
+      let z = nth_there (zones_in p) n r.0 in
+      let g = nth_there (model_in p).bads k r.1 in
+      record_made area n (le-leb _ _ enough) z.0 z.1 (model_in p).bads k g.0 g.1
+  check_made area enough (Time n) r =
+      let z = nth_there (zones_in p) n r in
+      zone_made area n (le-leb _ _ enough) z.0 z.1
+  check_made area enough (Command n k) r =
+      let z = nth_there (zones_in p) n r.0 in
+      let d = nth_there (model_in p).commands k r.1 in
+      record_made area n (le-leb _ _ enough) z.0 z.1 (model_in p).commands k d.0 d.1
 
-module _ (admits : ℕ → Type 0) (m : Model) (l : List Zone) (struck : List Bool) where
-  pub decided_start : (zone : Option ℕ) → Names (HoldsStart admits m) struck l zone → Decided admits m l struck Start (settled_by_zone zone)
-  decided_start (Some n) names = (record { number = n; zone = names.zone; is_unstruck = names.is_unstruck; has = names.has }, names)
-  decided_start None names = λ h. names h.number h.zone h.is_unstruck h.has
-
-  pub decided_time : (n : ℕ) (zone : Option ℕ) (z : Zone) → slice_get l n ≡ Some z → ((y : Zone) → slice_get l n ≡ Some y → Names (CoversTime admits m y) struck l zone) → Decided admits m l struck (Time n) (settled_by_zone zone)
-  decided_time n (Some k) z listed names = (λ y e. let found = names y e in record { number = k; zone = found.zone; is_unstruck = found.is_unstruck; has = found.has }, names)
-  decided_time n None z listed names = λ h. let y = h z listed in names z listed y.number y.zone y.is_unstruck y.has
-
-  pub decided_command : (n k : ℕ) (zone : Option ℕ) (z : Zone) (c : CommandOf) → slice_get l n ≡ Some z → slice_get m.commands k ≡ Some c → ((y : Zone) (d : CommandOf) → slice_get l n ≡ Some y → slice_get m.commands k ≡ Some d → Names (CoversCommand admits m y d) struck l zone) → Decided admits m l struck (Command n k) (settled_by_zone zone)
-  decided_command n k (Some i) z c listed named names = (λ y d e f. let found = names y d e f in record { number = i; zone = found.zone; is_unstruck = found.is_unstruck; has = found.has }, names)
-  decided_command n k None z c listed named names = λ h. let y = h z c listed named in names z c listed named y.number y.zone y.is_unstruck y.has
-
-  pub decided_bad : (n k : ℕ) (holds : Bool) (z : Zone) (g : Guarded) → slice_get l n ≡ Some z → slice_get m.bads k ≡ Some g → ((y : Zone) (d : Guarded) → slice_get l n ≡ Some y → slice_get m.bads k ≡ Some d → Decides holds (BadCheck admits m y d)) → Decided admits m l struck (Bad n k) (by_answer holds)
-  decided_bad n k true z g listed named told = (λ y d e f. (told y d e f).0 refl, refl)
-  decided_bad n k false z g listed named told = λ h. true≢false (sym ((told z g listed named).1 (h z g listed named)))
+  pub listed_made : (area : ℕ) → 578 ≤ area → (struck : List Bool) (number : ℕ) (c : Check) → slice_get (order (length (model_in p).bads) (length (model_in p).commands) struck (length (zones_in p))) number ≡ Some c → refused_check p area c ≡ None
+  listed_made area enough struck number c e = check_made area enough c (in_range _ _ struck _ number c e)

@@ -1,10 +1,11 @@
 -- The check at a place of the order, zone by zone. Assumes nothing.
 use Rattle.std.proofs.Common.{◌≡◌, ℕ, zero, suc, ◌+◌, ◌-◌, ◌<◌, ◌≤◌, Bool, true, false, List, [], ◌∷◌, ◌++◌, map, length, get_or, Some, None, refl, ap, ◌∙◌, arith}
 use Rattle.std.specs.List.{slice_get}
+use Rattle.std.specs.Option.{option_map}
 use Rattle.std.proofs.lemmas.List.{length-map}
-use Rattle.model.proofs.Kept.{nth_map_some}
-use Rattle.sheet.specs.declared.check.Check.{Check}
-use Rattle.sheet.specs.declared.check.Check.TheVariants.{Bad, Time, Command}
+use Rattle.std.proofs.lemmas.Option.{slice_get-map}
+use Rattle.checks.specs.declared.check.Check.{Check}
+use Rattle.checks.specs.declared.check.Check.TheVariants.{Bad, Time, Command}
 use Rattle.std.proofs.lemmas.Nat.{mul-le}
 use Rattle.std.proofs.lemmas.Bool.{cond_both}
 use Rattle.sheet.specs.Order.{counting, checks_of, checks_from, order, unstruck_from}
@@ -33,7 +34,7 @@ module _ (bads commands n : ℕ) where
 
   pub of_bad : (k : ℕ) → k < bads → slice_get (checks_of bads commands n) k ≡ Some (Bad n k)
   unfolding checks_of
-  of_bad k less = nth_front (map (Bad n) (counting 0 bads)) (Time n ∷ map (Command n) (counting 0 commands)) k (omega (arith, length_bads)) ∙ nth_map_some (Bad n) (counting 0 bads) k (0 + k) (nth_counted 0 bads k less) ∙ ap (λ (i : ℕ). Some (Bad n i)) (omega arith)
+  of_bad k less = nth_front (map (Bad n) (counting 0 bads)) (Time n ∷ map (Command n) (counting 0 commands)) k (omega (arith, length_bads)) ∙ slice_get-map (Bad n) (counting 0 bads) k ∙ ap (option_map (Bad n)) (nth_counted 0 bads k less) ∙ ap (λ (i : ℕ). Some (Bad n i)) (omega arith)
 
   pub of_time : (k : ℕ) → k ≡ bads → slice_get (checks_of bads commands n) k ≡ Some (Time n)
   unfolding checks_of
@@ -43,7 +44,7 @@ module _ (bads commands n : ℕ) where
   unfolding checks_of
   of_command k more less =
       nth_after (map (Bad n) (counting 0 bads)) (Time n ∷ map (Command n) (counting 0 commands)) k (suc (k - bads - 1)) (omega (arith, length_bads))
-      ∙ nth_map_some (Command n) (counting 0 commands) (k - bads - 1) (0 + (k - bads - 1)) (nth_counted 0 commands (k - bads - 1) (omega arith)) ∙ ap (λ (i : ℕ). Some (Command n i)) (omega arith)
+      ∙ slice_get-map (Command n) (counting 0 commands) (k - bads - 1) ∙ ap (option_map (Command n)) (nth_counted 0 commands (k - bads - 1) (omega arith)) ∙ ap (λ (i : ℕ). Some (Command n i)) (omega arith)
 
 module _ (bads commands : ℕ) (struck : List Bool) (n zones : ℕ) (less : n < zones) where
   one_more : zones - n ≡ suc (zones - (n + 1))

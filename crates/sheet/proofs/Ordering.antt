@@ -6,10 +6,11 @@ use Rattle.std.proofs.ByRecursion.{All-append, All-map}
 use Rattle.std.proofs.lemmas.Bool.{cases_Bool, cases_eq, true≢false}
 use Rattle.format.specs.Syntax.{Zone, Model}
 use Rattle.checks.specs.Meanings.{Unstruck}
-use Rattle.sheet.specs.Meanings.{Holds, AllHold}
+use Rattle.checks.specs.Decisions.{Holds}
+use Rattle.sheet.specs.Meanings.{AllHold}
 use Rattle.sheet.proofs.Counting.{nth_in}
-use Rattle.sheet.specs.declared.check.Check.{Check}
-use Rattle.sheet.specs.declared.check.Check.TheVariants.{Start, Bad, Time, Command}
+use Rattle.checks.specs.declared.check.Check.{Check}
+use Rattle.checks.specs.declared.check.Check.TheVariants.{Start, Bad, Time, Command}
 use Rattle.sheet.specs.Order.{counting, checks_of, checks_from, order, unstruck_from, total}
 
 pub length_counting : (k n : ℕ) → length (counting k n) ≡ n

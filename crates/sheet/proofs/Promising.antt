@@ -1,12 +1,13 @@
 -- What a verdict says after a series of calls. Assumes nothing.
 use Rattle.std.proofs.Common.{◌≡◌, ℕ, ◌<◌, ◌≤◌, Bool, true, false, List, length, Some, None, Option, sym, refl, ◌∙◌, subst, arith}
-use Rattle.sheet.specs.Meanings.{Holds, AllHold}
+use Rattle.checks.specs.Decisions.{Holds}
+use Rattle.sheet.specs.Meanings.{AllHold}
 use Rattle.sheet.specs.Order.{total}
 use Rattle.sheet.specs.Sheets.{model_on, zones_on, struck_on, checks_on, next_on}
 use Rattle.sheet.specs.Striking.{by_failing, verdict_of}
 use Rattle.sheet.specs.Series.{History, HoldBelow, FailsAt, Promise}
 use Rattle.sheet.specs.Tracking.{Progress, Tracks}
-use Rattle.sheet.specs.declared.check.Check.{Check}
+use Rattle.checks.specs.declared.check.Check.{Check}
 use Rattle.sheet.specs.declared.sheet.Sheet.{Sheet}
 use Rattle.sheet.specs.declared.answers.Verdict.TheVariants.{Accepted, Failing, Unfinished}
 use Rattle.sheet.proofs.Safety.{never_bad}

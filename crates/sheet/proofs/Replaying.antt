@@ -7,7 +7,7 @@ use Rattle.format.specs.Words.{words}
 use Rattle.format.specs.Syntax.{model_of, zones_of}
 use Rattle.format.specs.LookOver.{look_over_answer}
 use Rattle.model.specs.Passing.{passes}
-use Rattle.checks.specs.Calls.{pass_over}
+use Rattle.checks.specs.Passed.{pass_over}
 use Rattle.sheet.specs.Sheets.{Opened, model_on, zones_on, struck_on}
 use Rattle.sheet.specs.Striking.{verdict_of}
 use Rattle.sheet.specs.Series.{History, at_opening, after_call, after_calls, Promise}

@@ -4,7 +4,8 @@ use Rattle.format.specs.Syntax.{Zone, Model}
 use Rattle.model.specs.States.{State, LiesIn}
 use Rattle.model.specs.Steps.{Stands, Bad}
 use Rattle.model.specs.Steps.Stands.{at_start, fired, delayed}
-use Rattle.sheet.specs.Meanings.{SomeUnstruck, AllHold}
+use Rattle.checks.specs.Meanings.{SomeUnstruck}
+use Rattle.sheet.specs.Meanings.{AllHold}
 
 module _ (admits : ℕ → Type 0) (m : Model) (l : List Zone) (struck : List Bool) (all : AllHold admits m l struck) (K : ℕ) (ok : admits K) where
   -- a run stands in an unstruck zone

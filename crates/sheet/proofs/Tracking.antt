@@ -1,16 +1,16 @@
 -- A sheet after one more call. Assumes nothing.
 use Rattle.std.proofs.Common.{◌≡◌, ℕ, ◌+◌, min, Bool, true, false, cond, ◌&&◌, ltb, leb, ◌⊎◌, List, length, get_or, set, Some, None, Ok, Err, Option, Result, sym, refl, ap, ◌∙◌, subst, inl, inr, ⊎_elim, arith, MatchResult}
 use Rattle.model.specs.declared.files.Files.{Files}
-use Rattle.checks.specs.Calls.{pass_over}
+use Rattle.checks.specs.Passed.{pass_over}
 use Rattle.sheet.specs.Sheets.{Opened, zones_on, struck_on, next_on}
 use Rattle.sheet.specs.Settling.{unless, while_going, left_over, settle_refused, Settles, Moved}
 use Rattle.sheet.specs.Striking.{mark_refused, strike_refused, restore_refused, Marked}
 use Rattle.sheet.specs.Series.{History, at_opening, after_call, fresh, marking}
 use Rattle.sheet.specs.Tracking.{SoFar, Tracks, Makes}
-use Rattle.sheet.specs.declared.check.Check.{Check}
+use Rattle.checks.specs.declared.check.Check.{Check}
 use Rattle.sheet.specs.declared.sheet.Sheet.{Sheet}
-use Rattle.sheet.specs.declared.answers.Settled.{Settled}
-use Rattle.sheet.specs.declared.answers.Settled.TheVariants.{Holds as Held, Fails}
+use Rattle.checks.specs.declared.check.Settled.{Settled}
+use Rattle.checks.specs.declared.check.Settled.TheVariants.{Holds as Held, Fails}
 use Rattle.sheet.specs.declared.answers.Refused.{Refused}
 use Rattle.sheet.specs.declared.answers.Refused.TheVariants.{Void, ShortArea, NoSuchZone, AlreadySo}
 use Rattle.sheet.specs.declared.call.Call.TheVariants.{Settle, Strike, Restore}

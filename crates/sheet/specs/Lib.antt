@@ -1,5 +1,6 @@
 pub mod Meanings
 pub mod Order
+pub mod Counted
 pub mod Sheets
 pub mod Numbers
 pub mod Settling

@@ -2,25 +2,9 @@
 use Rattle.std.specs.Prelude.{◌≡◌, ℕ, Bool, List, Some}
 use Rattle.std.specs.List.{slice_get}
 use Rattle.format.specs.Syntax.{Guarded, Command as CommandOf, Zone, Model}
-use Rattle.checks.specs.Meanings.{HoldsStart, BadCheck, CoversTime, CoversCommand, Unstruck}
-use Rattle.sheet.specs.declared.check.Check.{Check}
-use Rattle.sheet.specs.declared.check.Check.TheVariants.{Start, Bad, Time, Command}
-
--- some unstruck zone has P
-pub record SomeUnstruck (P : Zone → Type 0) (struck : List Bool) (l : List Zone) : Type 0 where
-  pub number : ℕ
-  pub zone : Zone
-  pub is_unstruck : Unstruck struck l number zone
-  pub has : P zone
+use Rattle.checks.specs.Meanings.{HoldsStart, BadCheck, CoversTime, CoversCommand, Unstruck, SomeUnstruck}
 
 module _ (admits : ℕ → Type 0) (m : Model) (l : List Zone) (struck : List Bool) where
-  -- what it means that a check holds
-  abbrev pub Holds : Check → Type 0
-  Holds Start = SomeUnstruck (HoldsStart admits m) struck l
-  Holds (Bad n k) = (z : Zone) (g : Guarded) → slice_get l n ≡ Some z → slice_get m.bads k ≡ Some g → BadCheck admits m z g
-  Holds (Time n) = (z : Zone) → slice_get l n ≡ Some z → SomeUnstruck (CoversTime admits m z) struck l
-  Holds (Command n k) = (z : Zone) (c : CommandOf) → slice_get l n ≡ Some z → slice_get m.commands k ≡ Some c → SomeUnstruck (CoversCommand admits m z c) struck l
-
   -- the list is closed zone by zone: every time check and every command check of its unstruck zones holds
   pub record Closed : Type 0 where
     pub time : (n : ℕ) (z : Zone) → Unstruck struck l n z → SomeUnstruck (CoversTime admits m z) struck l

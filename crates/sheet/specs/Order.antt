@@ -1,7 +1,7 @@
 -- The checks of a list in order, and how many they are. Assumes nothing.
 use Rattle.std.specs.Prelude.{ℕ, zero, suc, ◌+◌, ◌*◌, Bool, false, cond, List, [], ◌∷◌, ◌++◌, map, slice_index_or}
-use Rattle.sheet.specs.declared.check.Check.{Check}
-use Rattle.sheet.specs.declared.check.Check.TheVariants.{Start, Bad, Time, Command}
+use Rattle.checks.specs.declared.check.Check.{Check}
+use Rattle.checks.specs.declared.check.Check.TheVariants.{Start, Bad, Time, Command}
 
 -- so many numbers, from k on
 unfoldable pub counting : ℕ → ℕ → List ℕ

@@ -5,9 +5,10 @@ use Rattle.format.specs.Syntax.{Zone, Model}
 use Rattle.model.specs.States.{State}
 use Rattle.model.specs.Steps.{Stands, Bad}
 use Rattle.std.specs.List.{slice_get}
-use Rattle.sheet.specs.Meanings.{Holds, AllHold}
+use Rattle.checks.specs.Decisions.{Holds}
+use Rattle.sheet.specs.Meanings.{AllHold}
 use Rattle.sheet.specs.Order.{order, total}
-use Rattle.sheet.specs.declared.check.Check.{Check}
+use Rattle.checks.specs.declared.check.Check.{Check}
 use Rattle.sheet.specs.declared.answers.Verdict.{Verdict}
 use Rattle.sheet.specs.declared.answers.Verdict.TheVariants.{Accepted, Failing, Unfinished}
 use Rattle.sheet.specs.declared.call.Call.{Call}

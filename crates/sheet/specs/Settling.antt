@@ -1,16 +1,12 @@
 -- What settle answers, and what the sheet then holds. Assumes nothing.
-use Rattle.std.specs.Prelude.{◌≡◌, ℕ, ◌+◌, ◌≤◌, Bool, true, false, List, Some, None, Option, nat_le}
-use Rattle.std.specs.List.{slice_get}
-use Rattle.format.specs.Syntax.{Zone, Model, Command as CommandOf}
-use Rattle.checks.specs.Calls.{pass_over}
-use Rattle.checks.specs.Meanings.{HoldsStart, CoversTime, CoversCommand, Names}
-use Rattle.sheet.specs.Meanings.{Holds}
+use Rattle.std.specs.Prelude.{◌≡◌, ℕ, ◌+◌, ◌≤◌, Bool, true, false, Some, None, Option, nat_le}
+use Rattle.checks.specs.Passed.{pass_over}
+use Rattle.checks.specs.Decisions.{Decided}
 use Rattle.sheet.specs.Sheets.{model_on, zones_on, struck_on, next_on}
-use Rattle.sheet.specs.declared.check.Check.{Check}
-use Rattle.sheet.specs.declared.check.Check.TheVariants.{Start, Bad, Time, Command}
+use Rattle.checks.specs.declared.check.Check.{Check}
 use Rattle.sheet.specs.declared.sheet.Sheet.{Sheet}
-use Rattle.sheet.specs.declared.answers.Settled.{Settled}
-use Rattle.sheet.specs.declared.answers.Settled.TheVariants.{Holds as Held, Fails}
+use Rattle.checks.specs.declared.check.Settled.{Settled}
+use Rattle.checks.specs.declared.check.Settled.TheVariants.{Holds as Held, Fails}
 use Rattle.sheet.specs.declared.answers.Refused.{Refused}
 use Rattle.sheet.specs.declared.answers.Refused.TheVariants.{Void, ShortArea, NothingLeft}
 
@@ -40,28 +36,6 @@ pub record AskedFor (s : Sheet) (area : ℕ) (c : Check) : Type 0 where
   pub enough : 578 ≤ area
   pub going : s.failing ≡ false
   pub next : next_on s ≡ Some c
-
--- a zone that was found, or none, as the answer of a check
-abbrev pub settled_by_zone : Option ℕ → Settled
-settled_by_zone (Some n) = Held (Some n)
-settled_by_zone None = Fails
-
-abbrev pub by_answer : Bool → Settled
-by_answer true = Held None
-by_answer false = Fails
-
-module _ (admits : ℕ → Type 0) (m : Model) (l : List Zone) (struck : List Bool) where
-  -- the zone that the answer names: the lowest numbered unstruck one that holds the start, or what is reached; none for a bad check
-  abbrev pub ZoneNamed : Check → Option ℕ → Type 0
-  ZoneNamed Start zone = Names (HoldsStart admits m) struck l zone
-  ZoneNamed (Bad n k) zone = zone ≡ None
-  ZoneNamed (Time n) zone = (z : Zone) → slice_get l n ≡ Some z → Names (CoversTime admits m z) struck l zone
-  ZoneNamed (Command n k) zone = (z : Zone) (c : CommandOf) → slice_get l n ≡ Some z → slice_get m.commands k ≡ Some c → Names (CoversCommand admits m z c) struck l zone
-
-  -- holds exactly when the check's meaning is true, fails exactly when it is false
-  abbrev pub Decided : Check → Settled → Type 0
-  Decided c (Held zone) = Holds admits m l struck c × ZoneNamed c zone
-  Decided c Fails = Holds admits m l struck c → ⊥
 
 -- the same files and marks, with this count, failing or not
 pub record Moved (old new : Sheet) (count : ℕ) (failing : Bool) : Type 0 where

@@ -4,7 +4,7 @@ use Rattle.std.specs.List.{slice_get}
 use Rattle.format.specs.Syntax.{Zone, Model}
 use Rattle.model.specs.Files.{model_in, zones_in}
 use Rattle.sheet.specs.Order.{order}
-use Rattle.sheet.specs.declared.check.Check.{Check}
+use Rattle.checks.specs.declared.check.Check.{Check}
 use Rattle.sheet.specs.declared.sheet.Sheet.{Sheet}
 
 -- the model and the zones of a sheet's files, and its marks

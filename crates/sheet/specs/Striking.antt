@@ -1,10 +1,10 @@
 -- What strike, restore and verdict answer, and what the sheet then holds. Assumes nothing.
 use Rattle.std.specs.Prelude.{◌≡◌, ℕ, Bool, true, false, not, length, Some, None, Option, nat_lt, slice_index_or, slice_set}
 use Rattle.std.specs.List.{slice_get}
-use Rattle.checks.specs.Calls.{pass_over}
+use Rattle.checks.specs.Passed.{pass_over}
 use Rattle.sheet.specs.Sheets.{zones_on, struck_on, checks_on, next_on}
 use Rattle.sheet.specs.Settling.{unless}
-use Rattle.sheet.specs.declared.check.Check.{Check}
+use Rattle.checks.specs.declared.check.Check.{Check}
 use Rattle.sheet.specs.declared.sheet.Sheet.{Sheet}
 use Rattle.sheet.specs.declared.answers.Refused.{Refused}
 use Rattle.sheet.specs.declared.answers.Refused.TheVariants.{Void, NoSuchZone, AlreadySo}

@@ -3,8 +3,8 @@ use Rattle.std.specs.Prelude.{◌≡◌, ℕ, ◌<◌, min, Bool, true, false, L
 use Rattle.std.specs.List.{slice_get}
 use Rattle.model.specs.declared.files.Files.{Files}
 use Rattle.model.specs.Files.{model_in, zones_in}
-use Rattle.checks.specs.Calls.{pass_over}
-use Rattle.sheet.specs.Meanings.{Holds}
+use Rattle.checks.specs.Passed.{pass_over}
+use Rattle.checks.specs.Decisions.{Holds}
 use Rattle.sheet.specs.Order.{order}
 use Rattle.sheet.specs.Sheets.{zones_on, struck_on}
 use Rattle.sheet.specs.Series.{History, after_call}

@@ -1,16 +1,11 @@
 // What the calls answer.
-ghost use Rattle.std.specs.Prelude.{◌≡◌};
-ghost use Rattle.sheet.specs.Numbers.{number_of};
+ghost use Rattle.std.specs.Prelude.{◌≡◌, Some};
+ghost use Rattle.sheet.specs.Numbers.{number_of, verdict_printed};
 
-// What a settled check answers: it holds, with the number of the zone that holds what is reached, or the start; or it fails.
-#[derive(Clone, Copy)]
-pub enum Settled {
-    Holds(Option<usize>),
-    Fails,
-}
+use std::fmt;
 
 // Why a call is refused.
-#[derive(Clone, Copy)]
+#[derive(Clone, Copy, Debug, PartialEq, Eq)]
 pub enum Refused {
     Void,
     ShortArea,
@@ -20,7 +15,7 @@ pub enum Refused {
 }
 
 impl Refused {
-    // The refusal's number.
+    // The refusal's number: what the users tell refusals by.
     pub fn number(self) -> u8
         ensures { result ≡ number_of self }
     {
@@ -35,9 +30,21 @@ impl Refused {
 }
 
 // What a verdict says: all checks are settled and hold, so many; the check with this number failed; or so many are settled.
-#[derive(Clone, Copy)]
+#[derive(Clone, Copy, Debug, PartialEq, Eq)]
 pub enum Verdict {
     Accepted(usize),
     Failing(usize),
     Unfinished(usize),
+}
+
+impl fmt::Display for Verdict {
+    ghost output = { λ v. Some (verdict_printed v) };
+
+    fn fmt<W: fmt::Write>(&self, f: &mut fmt::Formatter<W>) -> fmt::Result {
+        match *self {
+            Verdict::Accepted(count) => write!(f, "accepted {count}"),
+            Verdict::Failing(number) => write!(f, "failing {number}"),
+            Verdict::Unfinished(count) => write!(f, "unfinished {count}"),
+        }
+    }
 }

@@ -3,8 +3,7 @@
 
 mod answers;
 mod call;
-mod check;
-mod decide;
+mod count;
 mod marks;
 mod next;
 mod open;
@@ -13,8 +12,8 @@ mod settle;
 mod sheet;
 mod strike;
 
-pub use answers::{Refused, Settled, Verdict};
+pub use answers::{Refused, Verdict};
 pub use call::Call;
-pub use check::Check;
+pub use checks::{Check, Settled};
 pub use series::replay;
 pub use sheet::Sheet;

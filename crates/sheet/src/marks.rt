@@ -1,7 +1,8 @@
 // Which zones are struck.
-ghost use Rattle.std.specs.Prelude.{◌≡◌, ◌<◌, true, false, replicate, slice_index_or, slice_set};
+ghost use Rattle.std.specs.Prelude.{◌≡◌, true, false, replicate, slice_index_or, slice_set};
 
-// One mark for each of 512 zones: whether it is struck.
+// One mark for each of 512 zones: whether it is struck. Further zones have none. To mark and to unmark are two calls, as the users
+// ask for them.
 #[derive(Clone, Copy)]
 pub(crate) struct Marks {
     pub(crate) struck: [bool; 512],
@@ -18,23 +19,24 @@ impl Marks {
     }
 
     pub(crate) fn mark(&mut self, zone: usize)
-        requires { zone < 512 }
         ensures { self.new.struck ≡ slice_set self.old.struck zone true }
     {
-        self.struck[zone] = true;
+        if zone < self.struck.len() {
+            self.struck[zone] = true;
+        }
     }
 
     pub(crate) fn unmark(&mut self, zone: usize)
-        requires { zone < 512 }
         ensures { self.new.struck ≡ slice_set self.old.struck zone false }
     {
-        self.struck[zone] = false;
+        if zone < self.struck.len() {
+            self.struck[zone] = false;
+        }
     }
 
     pub(crate) fn is_struck(&self, zone: usize) -> bool
-        requires { zone < 512 }
         ensures { result ≡ slice_index_or self.now.struck zone false }
     {
-        self.struck[zone]
+        self.struck.get(zone).copied().unwrap_or(false)
     }
 }

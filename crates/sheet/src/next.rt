@@ -3,15 +3,18 @@ ghost use Rattle.std.specs.Prelude.{◌≡◌, ◌+◌, ◌<◌, ◌≤◌, Some
 ghost use Rattle.std.specs.List.{slice_get};
 ghost use Rattle.sheet.specs.Order.{order, checks_of};
 
-use crate::check::Check;
 use crate::marks::Marks;
+use checks::Check;
 
-// How many bad records, commands and zones there are.
+// How many bad records, commands and zones files have that passed the look-over.
 #[derive(Clone, Copy)]
 pub(crate) struct Counts {
     pub(crate) bads: usize,
     pub(crate) commands: usize,
     pub(crate) zones: usize,
+    ghost few_bads: { bads ≤ 32 },
+    ghost few_commands: { commands ≤ 64 },
+    ghost few_zones: { zones ≤ 512 },
 }
 
 impl Counts {
@@ -29,10 +32,8 @@ impl Counts {
         }
     }
 
-    // The check with this number, in the order of checks.
+    // The check with this number, in the order of checks. By a range, since a zone's number is what its check is named by.
     pub(crate) fn check_at(self, marks: &Marks, number: usize) -> Option<Check>
-        requires few { self.zones ≤ 512 }
-        requires small { self.bads + 1 + self.commands ≤ 1000 }
         ensures { result ≡ slice_get (order self.bads self.commands marks.now.struck self.zones) number }
     {
         if number == 0 {

@@ -14,7 +14,8 @@ use crate::sheet::Sheet;
 use bound::Bound;
 
 impl<'a> Sheet<'a> {
-    // Makes one call. Settle brings the first bounds of the area, as many as it says and there are.
+    // Makes one call. Settle brings the first bounds of the area, as many as it says and there are. A `match`, since the calls
+    // come as data.
     fn make<B: Bound>(&mut self, call: Call, area: &mut [B])
         ensures { Makes B.admits (length area.old) self.old call self.new }
     {

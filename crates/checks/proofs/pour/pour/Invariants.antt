@@ -1,4 +1,3 @@
-use Rattle.std.proofs.Common.{length}
 use Rattle.std.specs.List.{AllByRecursion}
 use Rattle.model.specs.Views.{atoms_in}
 use Rattle.checks.specs.Frames.{shape, Placeable}
@@ -7,8 +6,6 @@ use Rattle.checks.proofs.Pours.{Pouring}
 use Rattle.checks.proofs.pour.pour.Given as goal
 
 abbrev pub invariant-loop-atom : goal.invariant-loop-atom
-invariant-loop-atom g l = let b = g.B.Bound in
-    Pouring b.admits b.allows b.size b.unbounded (Placed (shape l.frame)) (atoms_in l.atoms) (atoms_in l.rest) l.initial.table l.table × AllByRecursion (Placeable (shape l.frame) l.table.n) (atoms_in l.rest)
-
-abbrev pub decreases-loop-atom : goal.decreases-loop-atom
-decreases-loop-atom g l = length l.rest.bytes.now
+invariant-loop-atom g l =
+    Pouring (Placed (shape l.frame)) (atoms_in l.fn.atoms) (atoms_in l.atom-iterator) l.initial.table l.table
+    × AllByRecursion (Placeable (shape l.frame) l.table.square.n) (atoms_in l.atom-iterator)

@@ -1,11 +1,7 @@
-use Rattle.std.proofs.Common.{length}
 use Rattle.bound.specs.Time.{Same}
 use Rattle.model.specs.Steps.{Urgent}
 use Rattle.model.specs.Files.{commands_left}
 use Rattle.checks.proofs.time.is_urgent.Given as goal
 
 abbrev pub invariant-loop-command : goal.invariant-loop-command
-invariant-loop-command l = Same (Urgent (commands_left l.commands) l.booleans) (Urgent (commands_left l.rest) l.booleans)
-
-abbrev pub decreases-loop-command : goal.decreases-loop-command
-decreases-loop-command l = length l.rest.bytes.now
+invariant-loop-command l = Same (Urgent (commands_left l.fn.commands) l.booleans) (Urgent (commands_left l.command-iterator) l.booleans)

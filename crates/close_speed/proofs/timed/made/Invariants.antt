@@ -1,9 +1,8 @@
 use Rattle.std.proofs.Common.{◌≡◌}
-use Rattle.dbm.specs.Calls.{Open}
 use Rattle.close_speed.proofs.timed.made.Given as goal
 
 abbrev pub invariant-loop-j : goal.invariant-loop-j
-invariant-loop-j g l = let b = g.B.Bound in Open b.admits b.allows b.size b.unbounded l.t × (l.t.n ≡ l.n)
+invariant-loop-j g l = l.t.square.n ≡ l.n
 
 abbrev pub invariant-loop-i : goal.invariant-loop-i
-invariant-loop-i g l = let b = g.B.Bound in Open b.admits b.allows b.size b.unbounded l.t × (l.t.n ≡ l.n)
+invariant-loop-i g l = l.t.square.n ≡ l.n

@@ -1,19 +1,13 @@
-use Rattle.std.proofs.Common.{refl, ◌∙◌, subst}
+use Rattle.std.proofs.Common.{◌∙◌, subst}
 use Rattle.format.specs.Reading.{WalksOn}
 use Rattle.format.specs.declared.scope.Record.{Record}
-use Rattle.format.proofs.Files.{end_passes, record_goes, rest_shorter, rest_within}
+use Rattle.format.proofs.Files.{end_passes, record_goes, rest_within}
 use Rattle.format.proofs.look.tally.Goals as goal
 
 pub loop-record-preserved : goal.loop-record-preserved
 loop-record-preserved c =
     let h = c.in_ok-record.ensures in
     (c.loop-record.invariant.0 ∙ record_goes _ _ _ _ _ c.in_default.not-End (h.walks c.loop-record.invariant.1), rest_within _ _ _ _ _ h c.loop-record.invariant.1)
-
-pub loop-record-smaller : goal.loop-record-smaller
-loop-record-smaller c = rest_shorter _ _ _ _ _ c.in_ok-record.ensures
-
-pub loop-record-init : goal.loop-record-init
-loop-record-init c = (refl, c.requires)
 
 pub returns-in-End : goal.returns-in-End
 returns-in-End c =

@@ -1,22 +1,23 @@
-use Rattle.std.proofs.Common.{◌-◌, ℤ, subst, arith, w32, SFits, rules}
-use Rattle.std.proofs.lemmas.Int.{to_z-of_z}
-use Rattle.std.proofs.ByRecursion.{All-weaker}
-use Rattle.format.specs.Words.{words}
-use Rattle.checks.specs.Frames.{Written}
-use Rattle.checks.proofs.Shapes.{writing_none, writing_more, writing_all, resets_higher}
+use Rattle.std.proofs.Common.{◌+◌, ◌-◌, ◌/◌, ◌^◌, arith}
+use Rattle.model.specs.Views.{reset_is}
+use Rattle.model.specs.Views.{words_left}
+use Rattle.checks.proofs.Shapes.{writing_none, writing_more, writing_all, resets_rise}
 use Rattle.checks.proofs.frame.Frame.after.Goals as goal
 
 pub loop-reset-init : goal.loop-reset-init
-loop-reset-init c = writing_none _ c.same-frame.result c.same-frame.ensures
+loop-reset-init c = rw c.into_iter-reset-iterator.ensures.into_iter_gives (writing_none _ c.same-frame.result c.same-frame.ensures)
+
+pub reset-requires : goal.reset-requires
+reset-requires c =
+    let i = c.loop-reset.reset-iterator in
+    let rise = resets_rise (15 - i.bit) (i.bit + 1) (i.mask / 2 ^ i.bit) (words_left i.numbers) (reset_is c.in-Some.reset) _ c.in-Some.ensures.steps in
+    omega (arith, rise.some, rise.known)
 
 pub loop-reset-preserved : goal.loop-reset-preserved
 loop-reset-preserved c =
-    let first = c.in-Some.ensures in
-    let more = c.in-Some.more in
-    let fits : SFits w32 c.in-Some.reset.number = search rules in
-    let written = subst (λ (z : ℤ). Written c.loop-reset.frame (record { clock = c.in-Some.reset.clock; number = z }) c.reset.new.self) (to_z-of_z w32 c.in-Some.reset.number fits) c.reset.ensures in
-    writing_more _ _ _ _ c.loop-reset.frame c.reset.new.self c.loop-reset.invariant first.splits
-    (All-weaker _ _ (λ q h. omega (arith, first.higher)) _ (resets_higher (16 - more.clock) more.clock more.mask (words more.numbers.now))) written
+    let i = c.loop-reset.reset-iterator in
+    let rise = resets_rise (15 - i.bit) (i.bit + 1) (i.mask / 2 ^ i.bit) (words_left i.numbers) (reset_is c.in-Some.reset) _ c.in-Some.ensures.steps in
+    writing_more _ _ _ (reset_is c.in-Some.reset) c.loop-reset.frame c.reset.new.self c.loop-reset.invariant c.in-Some.ensures.steps rise.higher c.reset.ensures
 
 pub returns : goal.returns
-returns c = writing_all _ _ c.loop-reset.frame c.loop-reset.invariant c.in_default.ensures
+returns c = writing_all _ _ c.loop-reset.frame c.loop-reset.invariant c.in-None.ensures.steps.0

@@ -10,10 +10,7 @@ pub returns-then-not-ends_at : goal.returns-then-not-ends_at
 returns-then-not-ends_at c =
     rw (← length_words c.args.bytes.now) (wrong_end c.args.file c.args.like c.args.bytes.now (omega arith) (omega arith) (omega arith) (sym c.if-not-ends_at.ensures))
 
-pub right_head-requires : goal.right_head-requires
-right_head-requires c = omega (arith, length_words c.args.bytes.now)
-
-pub returns-in-Some : goal.returns-in-Some
-returns-in-Some c =
-    let told = c.in-Some.ensures in
-    opened c.args.file c.args.like c.args.bytes.now (omega arith) (omega arith) (omega arith) c.in-Some.scope (sym c.if-not-ends_at.ensures) told.0 told.1 (told.2 ∙ sym (length_words c.args.bytes.now))
+pub returns : goal.returns
+returns c =
+    let told = rw c.in_ok-scope.ensures.ok_part at c.right_head.ensures in
+    opened c.args.file c.args.like c.args.bytes.now (omega arith) (omega arith) (omega arith) c.in_ok-scope.scope (sym c.if-not-ends_at.ensures) told.0 told.1 (told.2 ∙ sym (length_words c.args.bytes.now))

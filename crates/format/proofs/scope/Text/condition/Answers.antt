@@ -10,4 +10,4 @@ returns-in_err-mask-2 c =
     (λ x. (ones_go c.args.self.now x _ _ c.in_ok-mask.ensures).walks ∙ c.in_err-mask-2.ensures x zerosMask tt)
 
 pub returns : goal.returns
-returns c = condition_goes c.args.self.now _ _ _ c.in_ok-mask.ensures c.in_ok-mask-2.ensures
+returns c = condition_goes c.args.self.now _ _ _ _ c.in_ok-mask.ensures c.in_ok-mask-2.ensures

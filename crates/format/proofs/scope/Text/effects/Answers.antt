@@ -1,7 +1,7 @@
-use Rattle.std.proofs.Common.{◌+◌, ◌∙◌, arith}
+use Rattle.std.proofs.Common.{◌∙◌}
 use Rattle.format.specs.Places.Slot.{clearMask}
 use Rattle.format.proofs.Exits.{exit}
-use Rattle.format.proofs.Learned.{set_goes, clear_stops, masks_go, goes_trans, goes_to}
+use Rattle.format.proofs.Learned.{set_goes, clear_stops, masks_go, after_masks}
 use Rattle.format.proofs.scope.Text.effects.Goals as goal
 
 pub returns-in_err-clear : goal.returns-in_err-clear
@@ -12,14 +12,7 @@ returns-in_err-clear c =
 pub returns-then-clear-set-ne0 : goal.returns-then-clear-set-ne0
 returns-then-clear-set-ne0 c x =
     (set_goes c.args.self.now x _ _ c.in_ok-set.ensures).walks ∙
-    (rw c.place.ensures (clear_stops c.args.self.now x _ _ _ c.in_ok-clear.ensures c.if-clear-set-ne0.true))
-
-pub returns-in_err-resets : goal.returns-in_err-resets
-returns-in_err-resets c =
-    exit _ _ _ _ c.from_residual-in_err-resets.ensures.1
-    (λ x. (masks_go c.args.self.now _ _ _ c.in_ok-set.ensures c.in_ok-clear.ensures c.if-clear-set-ne0.false x).walks ∙ c.in_err-resets.ensures x)
+    clear_stops _ x _ _ _ c.in_ok-clear.ensures c.if-clear-set-ne0.true
 
 pub returns : goal.returns
-returns c =
-    let e = c.in_ok-resets.ensures in
-    (e.0, λ x. goes_to c.args.self.now x _ _ _ (c.args.k + 2 + 1) (c.args.k + 3) (omega arith) (goes_trans c.args.self.now x _ _ _ _ _ _ (masks_go c.args.self.now _ _ _ c.in_ok-set.ensures c.in_ok-clear.ensures c.if-clear-set-ne0.false x) (e.1 x)))
+returns c = after_masks c.args.self.now _ _ c.reset.result (masks_go c.args.self.now _ _ _ _ c.in_ok-set.ensures c.in_ok-clear.ensures c.if-clear-set-ne0.false) c.reset.ensures

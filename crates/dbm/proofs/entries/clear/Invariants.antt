@@ -1,5 +1,0 @@
-use Rattle.std.proofs.Common.{◌≡◌, ℕ, ◌<◌, get_or}
-use Rattle.dbm.proofs.entries.clear.Given as goal
-
-abbrev pub invariant-loop-b : goal.invariant-loop-b
-invariant-loop-b g l = let k = g.B.Bound in (q : ℕ) → q < l.b-index → get_or l.bounds q k.unbounded ≡ k.unbounded
