@@ -32,7 +32,7 @@ fn made<B: Bound>(memory: &mut [B], n: usize, closing: bool) -> bool {
     !closing || t.close().is_some()
 }
 
-// The microseconds that so many tables take.
+// The microseconds that so many tables take. Added up by hand, since the library's `as_micros` has 128 bits.
 fn micros<B: Bound>(
     rt: &HostRuntime,
     memory: &mut [B],

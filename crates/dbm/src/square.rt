@@ -5,8 +5,8 @@ ghost use Rattle.dbm.specs.Table.{entry, Filled, Constrained};
 
 use bound::Bound;
 
-// n rows of n bounds, n at most 17, in memory that is lent: the rows' length stands beside it. The methods ask for a row and a column below n: a type for an index would have to carry n,
-// and be no plainer.
+// n rows of n bounds, n at most 17, in memory that is lent, there being no heap: the rows' length stands beside it. The methods
+// ask for a row and a column below n: a type for an index would have to carry n, and be no plainer.
 #[derive(Drop)]
 pub(crate) struct Square<'a, B> {
     pub(crate) bounds: &'a mut [B],

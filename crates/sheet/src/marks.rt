@@ -1,8 +1,8 @@
 // Which zones are struck.
 ghost use Rattle.std.specs.Prelude.{◌≡◌, true, false, replicate, slice_index_or, slice_set};
 
-// One mark for each of 512 zones: whether it is struck. Further zones have none. To mark and to unmark are two calls, as the users
-// ask for them.
+// One mark for each of 512 zones, in an array since there is no heap: whether it is struck. Further zones have none. To mark and
+// to unmark are two calls, as the users ask for them.
 #[derive(Clone, Copy)]
 pub(crate) struct Marks {
     pub(crate) struck: [bool; 512],

@@ -56,7 +56,8 @@ pub fn fits<'a>(name: &'a str, rows: usize, places: usize) -> Case<'a> {
     }
 }
 
-// Whether a zone has a solution.
+// Whether a zone has a solution. That the bounds lie in the rows is asked for here, since the type keeps it; a constructor that
+// refused would be no plainer, since the cases are written out.
 pub fn zone<'a>(name: &'a str, rows: usize, atoms: &'a [Atom]) -> Case<'a>
     requires { All (λ a. (a.i < rows) × (a.j < rows)) atoms.now }
 {
