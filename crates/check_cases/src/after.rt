@@ -108,6 +108,6 @@ const GROUPS: &[Group] = &[
     },
 ];
 
-pub fn groups() -> &'static [Group] {
+pub(crate) fn groups() -> &'static [Group] {
     GROUPS
 }

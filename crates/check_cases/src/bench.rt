@@ -68,7 +68,12 @@ impl<'a> Bench<'a> {
     }
 
     // The lines of the cases of two files, given by their words without the ends.
-    pub fn show_files(&mut self, model: &[u32], zones: &[u32], cases: &[Case]) -> io::Result<()> {
+    pub(crate) fn show_files(
+        &mut self,
+        model: &[u32],
+        zones: &[u32],
+        cases: &[Case],
+    ) -> io::Result<()> {
         let heap = self.rt.alloc();
         let model = bytes(heap, model, end_after(model.len()))?;
         let zones = bytes(heap, zones, end_after(zones.len()))?;
@@ -85,7 +90,7 @@ impl<'a> Bench<'a> {
         self.show_files(&model, &zones, group.cases)
     }
 
-    pub fn show_all(&mut self, groups: &[Group]) -> io::Result<()> {
+    pub(crate) fn show_all(&mut self, groups: &[Group]) -> io::Result<()> {
         for group in groups {
             self.show_group(group)?;
         }

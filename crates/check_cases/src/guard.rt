@@ -149,6 +149,6 @@ const GROUPS: &[Group] = &[
     },
 ];
 
-pub fn groups() -> &'static [Group] {
+pub(crate) fn groups() -> &'static [Group] {
     GROUPS
 }

@@ -78,7 +78,7 @@ const FULL_CASES: &[Case] = &[
     Case("full, one bad record more", Bad(1, 32), &[]),
 ];
 
-pub fn show(bench: &mut Bench, heap: Global) -> io::Result<()> {
+pub(crate) fn show(bench: &mut Bench, heap: Global) -> io::Result<()> {
     let model = joined(heap, H_X, UP_TO_5)?;
     bench.show_files(&model, &zones_512(heap)?, ZONE_CASES)?;
     bench.show_files(&full_model(heap)?, &full_zone(heap)?, FULL_CASES)

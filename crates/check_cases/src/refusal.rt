@@ -94,14 +94,14 @@ const LONG: &[Group] = &[Group {
     cases: &[Case("600 bounds, time", Time(0), &[])],
 }];
 
-pub fn with_577() -> &'static [Group] {
+pub(crate) fn with_577() -> &'static [Group] {
     SHORT
 }
 
-pub fn with_578() -> &'static [Group] {
+pub(crate) fn with_578() -> &'static [Group] {
     EXACT
 }
 
-pub fn with_600() -> &'static [Group] {
+pub(crate) fn with_600() -> &'static [Group] {
     LONG
 }

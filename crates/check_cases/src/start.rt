@@ -80,6 +80,6 @@ const GROUPS: &[Group] = &[
     },
 ];
 
-pub fn groups() -> &'static [Group] {
+pub(crate) fn groups() -> &'static [Group] {
     GROUPS
 }

@@ -164,6 +164,6 @@ const GROUPS: &[Group] = &[
     },
 ];
 
-pub fn groups() -> &'static [Group] {
+pub(crate) fn groups() -> &'static [Group] {
     GROUPS
 }

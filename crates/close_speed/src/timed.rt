@@ -62,7 +62,7 @@ fn rate(count: u32, micros: u64) -> u64 {
     u64::from(count) * 1_000_000 / micros
 }
 
-pub fn measure<B: Bound>(
+pub(crate) fn measure<B: Bound>(
     rt: &HostRuntime,
     kind: &str,
     memory: &mut [B],

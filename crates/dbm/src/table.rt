@@ -44,7 +44,8 @@ impl<'a, B: Bound> Table<'a, B> {
         Some(Table { square, copy })
     }
 
-    // One more bound: the smaller stays.
+    // One more bound: the smaller stays. A row and a column are asked for, since the callers have them from files that passed, and
+    // would have a refusal to unwrap.
     pub fn constrain(&mut self, atom: Atom)
         requires row { atom.i < self.old.square.n }
         requires column { atom.j < self.old.square.n }
@@ -69,7 +70,7 @@ impl<'a, B: Bound> Table<'a, B> {
 impl<'a, B: Bound> Closed<'a, B> {
     ghost use Rattle.dbm.specs.Calls.{Keeps};
 
-    // Whether every solution keeps a bound.
+    // Whether every solution keeps a bound. Its row and column are asked for as above.
     pub fn include(&self, atom: Atom) -> bool
         requires row { atom.i < self.now.square.n }
         requires column { atom.j < self.now.square.n }

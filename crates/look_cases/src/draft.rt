@@ -14,7 +14,7 @@ pub struct Draft {
 
 impl Draft {
     // The words of `base` after some edits, from the first to the last.
-    pub fn edited(heap: Global, base: &[u32], edits: &[Edit]) -> Result<Draft, AllocError> {
+    pub(crate) fn edited(heap: Global, base: &[u32], edits: &[Edit]) -> Result<Draft, AllocError> {
         let mut draft = Draft {
             heap,
             words: Vec::from_slice(heap, base)?,
@@ -66,7 +66,7 @@ impl Draft {
     }
 
     // The bytes of the file, each word's most significant byte first.
-    pub fn bytes(&self) -> Result<Vec<u8>, AllocError> {
+    pub(crate) fn bytes(&self) -> Result<Vec<u8>, AllocError> {
         let end = self.end.unwrap_or(end_after(self.words.len()));
         let mut bytes = bytes(self.heap, &self.words, end)?;
         bytes.truncate(self.keep);

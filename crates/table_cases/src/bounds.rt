@@ -16,14 +16,14 @@ pub const Z: usize = 3;
 pub const LAST: usize = 16;
 
 // Each of sixteen clocks at most a step above the one before.
-pub fn steps(step: i32) -> [Atom; 16]
+pub(crate) fn steps(step: i32) -> [Atom; 16]
     ensures { All (λ a. (a.i < 17) × (a.j < 17)) result }
 {
     array::from_fn(|i| Atom::at_most(i + 1, i, step))
 }
 
 // The same, and one bound more.
-pub fn steps_and(step: i32, atom: Atom) -> [Atom; 17]
+pub(crate) fn steps_and(step: i32, atom: Atom) -> [Atom; 17]
     requires row { atom.i < 17 }
     requires column { atom.j < 17 }
     ensures { All (λ a. (a.i < 17) × (a.j < 17)) result }
@@ -46,7 +46,7 @@ fn difference(k: usize, d: i32) -> Atom
 }
 
 // Every one of them.
-pub fn differences(d: i32) -> [Atom; 272]
+pub(crate) fn differences(d: i32) -> [Atom; 272]
     ensures { All (λ a. (a.i < 17) × (a.j < 17)) result }
 {
     array::from_fn(|k| difference(k, d))

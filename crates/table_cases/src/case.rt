@@ -46,7 +46,7 @@ impl fmt::Display for Answer {
 }
 
 // Whether so many rows fit into so many places.
-pub fn fits<'a>(name: &'a str, rows: usize, places: usize) -> Case<'a> {
+pub(crate) fn fits<'a>(name: &'a str, rows: usize, places: usize) -> Case<'a> {
     Case {
         name,
         places,
@@ -58,7 +58,7 @@ pub fn fits<'a>(name: &'a str, rows: usize, places: usize) -> Case<'a> {
 
 // Whether a zone has a solution. That the bounds lie in the rows is asked for here, since the type keeps it; a constructor that
 // refused would be no plainer, since the cases are written out.
-pub fn zone<'a>(name: &'a str, rows: usize, atoms: &'a [Atom]) -> Case<'a>
+pub(crate) fn zone<'a>(name: &'a str, rows: usize, atoms: &'a [Atom]) -> Case<'a>
     requires { All (λ a. (a.i < rows) × (a.j < rows)) atoms.now }
 {
     Case {
@@ -71,7 +71,7 @@ pub fn zone<'a>(name: &'a str, rows: usize, atoms: &'a [Atom]) -> Case<'a>
 }
 
 // Whether a zone lies in a bound.
-pub fn zone_in<'a>(name: &'a str, rows: usize, atoms: &'a [Atom], asked: Atom) -> Case<'a>
+pub(crate) fn zone_in<'a>(name: &'a str, rows: usize, atoms: &'a [Atom], asked: Atom) -> Case<'a>
     requires inside { All (λ a. (a.i < rows) × (a.j < rows)) atoms.now }
     requires row { asked.i < rows }
     requires column { asked.j < rows }
@@ -86,7 +86,7 @@ pub fn zone_in<'a>(name: &'a str, rows: usize, atoms: &'a [Atom], asked: Atom) -
 }
 
 impl<'a> Case<'a> {
-    pub fn name(&self) -> &'a str {
+    pub(crate) fn name(&self) -> &'a str {
         self.name
     }
 
@@ -103,7 +103,7 @@ impl<'a> Case<'a> {
     }
 
     // The answer in a kind of time.
-    pub fn answer<B: Bound>(&self, memory: &mut [B]) -> Answer {
+    pub(crate) fn answer<B: Bound>(&self, memory: &mut [B]) -> Answer {
         let Some(table) = self.table(memory) else {
             return Answer::Refused;
         };

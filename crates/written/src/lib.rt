@@ -1,21 +1,18 @@
 //! The bytes of a file that is given by its words, for the programs that try cases.
 #![tactic(auto)]
 
-ghost use Rattle.std.specs.Prelude.{◌≡◌, ◌+◌, ◌*◌, ◌^◌, ◌<◌, ◌++◌, [], ◌∷◌, IfOk};
+ghost use Rattle.std.specs.Prelude.{◌≡◌, ◌+◌, ◌*◌, ◌%◌, ◌^◌, ◌++◌, [], ◌∷◌, IfOk};
 ghost use Rattle.format.specs.Words.{words as words_of};
 
 use std::alloc::{AllocError, Global};
 
 const END: u32 = 0xF000_0000;
 
-// An end that says how many words stand before it.
+// An end that says how many words stand before it, as far as its 28 bits can say.
 pub fn end_after(count: usize) -> u32
-    ensures { count < 2 ^ 28 → result ≡ 15 * 2 ^ 28 + count }
+    ensures { result ≡ 15 * 2 ^ 28 + count % 2 ^ 28 }
 {
-    match u32::try_from(count) {
-        Ok(count) => END | count,
-        Err(_) => END,
-    }
+    END | (count % (1 << 28)) as u32
 }
 
 // The words and an end as bytes, each word's most significant byte first.
