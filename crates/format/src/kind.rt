@@ -5,20 +5,20 @@ ghost use Rattle.format.specs.Places.{starts_record};
 ghost use Rattle.format.specs.Kinds.{code, first_code};
 ghost use Rattle.format.specs.declared.kind.Kind.{Kind};
 
-// What a word is, by its top four bits.
+// What a word is, by its top four bits, which are the kind's number.
 #[derive(Clone, Copy, Debug, PartialEq, Eq)]
 pub enum Kind {
-    Head,
-    Start,
-    Command,
-    Mask,
-    Reset,
-    Invariant,
-    Bad,
-    Zone,
-    Atom,
-    Number,
-    End,
+    Head = 1,
+    Start = 2,
+    Command = 3,
+    Mask = 4,
+    Reset = 5,
+    Invariant = 6,
+    Bad = 7,
+    Zone = 8,
+    Atom = 9,
+    Number = 10,
+    End = 15,
 }
 
 impl Kind {
@@ -42,11 +42,11 @@ impl Kind {
         }
     }
 
-    // Whether a word is of this kind.
+    // Whether a word is of this kind. By the kind's number, since the walks over a file ask this of every word.
     pub fn is_of(self, word: u32) -> bool
         ensures { result ≡ (kind_of word == code self) }
     {
-        Kind::of(word) == Some(self)
+        word >> 28 == self as u32
     }
 }
 

@@ -211,7 +211,9 @@ impl Text<'_> {
         Ok(())
     }
 
-    // An atom and its number, after `count` others of their record: whether one came next.
+    // An atom and its number, after `count` others of their record: whether one came next. Inlined with the loop over it, so that
+    // the reader's place need not be written down at every word.
+    #[inline(always)]
     fn atom(&mut self, urgent: bool, count: usize) -> Result<bool, RecordFault>
         ensures { MatchResult result (λ some. AtomTaken self.old urgent count self.new some) (λ f. (x : Context) → x.urgent ≡ urgent → Stops self.old x (atomOr count) f) }
     {
@@ -231,6 +233,7 @@ impl Text<'_> {
     }
 
     // The atoms of a record. They end where the next word is no atom, so the count is no index of a `for`.
+    #[inline(always)]
     pub(crate) fn atoms(&mut self, urgent: bool) -> Result<(), RecordFault>
         ensures { Walks self.old (atomOr 0) self.new between (λ x. x.urgent ≡ urgent) result }
     {

@@ -81,6 +81,8 @@ impl<'a, R: Record<'a>> Iterator for Records<'a, R> {
 
     ghost remaining = { item_count (left R.said_by) };
 
+    // Inlined where records are walked: most walks pass many short ones over.
+    #[inline(always)]
     fn next(&mut self) -> Option<R> {
         let (part, rest) = next_of(self.bytes, self.kind)?;
         self.bytes = rest;
