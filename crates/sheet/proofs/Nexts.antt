@@ -1,5 +1,5 @@
 -- The check at a place of the order, zone by zone. Assumes nothing.
-use Rattle.std.proofs.Common.{◌≡◌, ℕ, zero, suc, ◌+◌, ◌-◌, ◌<◌, ◌≤◌, Bool, true, false, List, [], ◌∷◌, ◌++◌, map, length, get_or, Some, None, refl, ap, ◌∙◌, arith}
+use Rattle.std.proofs.Common.{◌≡◌, ℕ, zero, suc, ◌+◌, ◌-◌, ◌*◌, ◌<◌, ◌≤◌, Bool, true, false, List, [], ◌∷◌, ◌++◌, map, length, get_or, Some, None, refl, ap, ◌∙◌, arith}
 use Rattle.std.specs.List.{slice_get}
 use Rattle.std.specs.Option.{option_map}
 use Rattle.std.proofs.lemmas.List.{length-map}
@@ -86,3 +86,14 @@ unstruck_le struck n (suc more) = let l = unstruck_le struck (suc n) more in con
 pub count_small : (bads commands : ℕ) (struck : List Bool) (zones number : ℕ) (c : Check) → bads ≤ 32 → commands ≤ 64 → zones ≤ 512 → slice_get (order bads commands struck zones) number ≡ Some c → number < 49665
 count_small bads commands struck zones number c few_bads few_commands few_zones e =
     omega (arith, nth_in (order bads commands struck zones) number c e, length_order bads commands struck zones, mul-le (unstruck_from struck 0 zones) (bads + 1 + commands) 512 97 (omega (arith, unstruck_le struck 0 zones)) (omega arith))
+
+-- ---- past the checks of all zones there is none, whatever is struck
+
+nth_past : {X : Type 0} (l : List X) (k : ℕ) → length l ≤ k → slice_get l k ≡ None
+nth_past [] k le = refl
+nth_past (x ∷ xs) zero le = absurd (omega arith)
+nth_past (x ∷ xs) (suc k) le = nth_past xs k (omega arith)
+
+pub past_all : (bads commands : ℕ) (struck : List Bool) (zones number : ℕ) → zones * (bads + 1 + commands) < number → slice_get (order bads commands struck zones) number ≡ None
+past_all bads commands struck zones number past =
+    nth_past (order bads commands struck zones) number (omega (arith, length_order bads commands struck zones, mul-le (unstruck_from struck 0 zones) (bads + 1 + commands) zones (bads + 1 + commands) (unstruck_le struck 0 zones) (omega arith), past))

@@ -40,9 +40,13 @@ impl Counts {
             return Some(Check::Start);
         }
         let each = self.bads + 1 + self.commands;
+        // Past the checks of all zones there is none, whatever is struck, and no mark is asked for.
+        if number > self.zones * each {
+            return None;
+        }
         let mut left = number - 1;
         for zone in 0..self.zones {
-            if !marks.is_struck(zone) {
+            if !marks.struck[zone] {
                 if left < each {
                     return Some(self.within(zone, left));
                 }
