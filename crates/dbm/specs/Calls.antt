@@ -31,6 +31,10 @@ pub record More {B : Type 0} {kind : Kind B} (old : Table B kind) (atom : Atom) 
   pub same_rows : new.square.n ≡ old.square.n
   pub solutions : (k : ℕ) (ν : ℕ → ℤ) → kind.admits k → Same (Solves new k ν) (Solves old k ν × Made atom.d atom.strict k (ν atom.i -ℤ ν atom.j))
 
+-- every solution keeps the bound
+abbrev pub OpenKeeps : {B : Type 0} {kind : Kind B} → Table B kind → Atom → Type 0
+OpenKeeps {B} {kind} t atom = (k : ℕ) (ν : ℕ → ℤ) → kind.admits k → Solves t k ν → Made atom.d atom.strict k (ν atom.i -ℤ ν atom.j)
+
 -- ---- a table that was closed
 
 abbrev pub closed_bound_at : {B : Type 0} {kind : Kind B} → Closed B kind → ℕ → ℕ → B

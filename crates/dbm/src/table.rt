@@ -28,7 +28,7 @@ pub struct Closed<'a, B: Bound> {
 }
 
 impl<'a, B: Bound> Table<'a, B> {
-    ghost use Rattle.dbm.specs.Calls.{EmptyTable, More, HasSolution, Closes};
+    ghost use Rattle.dbm.specs.Calls.{EmptyTable, More, HasSolution, Closes, OpenKeeps, bound_at};
 
     // A table in this memory, zero on the diagonal and no bound elsewhere; or nothing where n is above 17 or the memory is
     // too short for the table and one row.
@@ -53,6 +53,18 @@ impl<'a, B: Bound> Table<'a, B> {
     {
         let bound = B::make(atom.d, atom.strict);
         self.square.lower(atom.i, atom.j, bound);
+    }
+
+    // Whether every solution keeps a bound, of a table that is tight though bounds may still be added to it. That it is tight is
+    // asked for here; a table that was closed has it in its type.
+    pub fn include(&self, atom: Atom) -> bool
+        requires tight { Tight B.Bound (bound_at self.now) self.now.square.n }
+        requires row { atom.i < self.now.square.n }
+        requires column { atom.j < self.now.square.n }
+        ensures { Decides result (OpenKeeps self.now atom) }
+    {
+        let entry = self.square.at(atom.i, atom.j);
+        entry.not_greater(B::make(atom.d, atom.strict))
     }
 
     // Closes the table; or nothing where it has no solution.
