@@ -1,5 +1,5 @@
 -- Dense time keeps the laws of a kind of time. Assumes nothing.
-use Rattle.std.specs.Prelude.{◌≡◌, ℕ, ◌*◌, ◌≤◌, Bool, true, false, ◌||◌, ◌⊎◌, ℤ, pos, ◌+ℤ◌, ◌-ℤ◌, ◌*ℤ◌, ◌<ℤ◌, not, ◌≢◌, Decides, Option, int_lt, int_le, refl}
+use Rattle.std.specs.Prelude.{◌≡◌, ℕ, ◌*◌, ◌≤◌, Bool, true, false, ◌||◌, ◌⊎◌, ℤ, pos, ◌+ℤ◌, ◌-ℤ◌, ◌*ℤ◌, ◌≤ℤ◌, ◌<ℤ◌, not, ◌≢◌, Decides, Option, None, Some, int_lt, int_le, refl}
 use Rattle.std.proofs.Common.{arith, mul_comm, sym, ap, subst, inl, inr}
 use Rattle.std.proofs.lemmas.Nat.{mul-le}
 use Rattle.std.proofs.lemmas.Bool.{true≢false}
@@ -9,13 +9,19 @@ use Rattle.bound.specs.Kinds.{DenseAllows, DenseLimitAllows}
 use Rattle.bound.specs.declared.dense.DenseLimit.{DenseLimit}
 use Rattle.bound.specs.declared.dense.DenseLimit.TheVariants.{Below, AtMost}
 use Rattle.bound.specs.Integers.{up_times, times_sum, times_times, times_strict}
-use Rattle.bound.specs.Scales.{flat, factor_some, made_finer, made_at_most, made_below, sum_of}
+use Rattle.bound.specs.Scales.{flat, factor_some, made_lower, made_finer, made_at_most, made_below, sum_of}
 
 abbrev pub every : ℕ → Type 0
 every k = 1 ≤ k
 
 pub dense_common : (k l : ℕ) → every k → every l → Common every k l
 dense_common k l a b = record { left = l; right = k; same = mul_comm k l; scale = mul-le 1 1 k l a b }
+
+-- what is smaller than an allowed difference is allowed, at every scale, and at 0 too, which is none
+pub dense_lower : (b : Option DenseLimit) (k : ℕ) (u v : ℤ) → DenseAllows b k v → u ≤ℤ v → DenseAllows b k u
+dense_lower None k u v h le = tt
+dense_lower (Some (Below n)) k u v h le = made_lower n true k u v h le
+dense_lower (Some (AtMost n)) k u v h le = made_lower n false k u v h le
 
 pub dense_finer : (b : DenseLimit) (k m : ℕ) (v : ℤ) → every (k * m) → Same (DenseLimitAllows b k v) (DenseLimitAllows b (k * m) (v *ℤ pos m))
 dense_finer (Below n) k m v some = made_finer n true k m v (factor_some k m some)
@@ -70,6 +76,10 @@ dense_total (Below a) (Below b) = total_made a b true true
 dense_total (Below a) (AtMost b) = total_made a b true false
 dense_total (AtMost a) (Below b) = total_made a b false true
 dense_total (AtMost a) (AtMost b) = total_made a b false false
+
+-- what is told of two limits is told of equal ones
+pub moved : (a c b d : ℤ) (s r t : Bool) → a ≡ c → b ≡ d → Decides t (Within every (Made a s) (Made b r)) → Decides t (Within every (Made c s) (Made d r))
+moved a c b d s r t e f h = subst (λ (z : ℤ). Decides t (Within every (Made z s) (Made d r))) e (subst (λ (z : ℤ). Decides t (Within every (Made a s) (Made z r))) f h)
 
 -- but for a weak limit against a strict one, the numbers decide
 pub decide : (a b : ℤ) (s r : Bool) → ((r ≡ true) → s ≡ true) → Decides (int_le a b) (Within every (Made a s) (Made b r))

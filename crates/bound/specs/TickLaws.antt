@@ -1,12 +1,12 @@
 -- Tick time keeps the laws of a kind of time. Assumes nothing.
-use Rattle.std.specs.Prelude.{◌≡◌, ℕ, ◌*◌, true, false, ◌⊎◌, ℤ, pos, ◌+ℤ◌, ◌-ℤ◌, ◌*ℤ◌, ◌≤ℤ◌, Decides, int_le, refl}
+use Rattle.std.specs.Prelude.{◌≡◌, ℕ, ◌*◌, true, false, ◌⊎◌, ℤ, pos, ◌+ℤ◌, ◌-ℤ◌, ◌*ℤ◌, ◌≤ℤ◌, Decides, Option, None, Some, int_le, refl}
 use Rattle.std.proofs.Common.{arith, mul-one, sym, ap, subst, ◌∙◌, inl, inr}
 use Rattle.std.proofs.lemmas.Int.{ints, by_lt_z}
 use Rattle.bound.specs.Time.{Meaning, Common, Within, Splits, Made, Same}
-use Rattle.bound.specs.Kinds.{TickLimitAllows}
+use Rattle.bound.specs.Kinds.{TickLimitAllows, TicksAllows}
 use Rattle.bound.specs.declared.ticks.TickLimit.{TickLimit}
 use Rattle.bound.specs.Integers.{times_sum, times_mono, times_one}
-use Rattle.bound.specs.Scales.{flat, made_finer, sum_of}
+use Rattle.bound.specs.Scales.{flat, made_lower, made_finer, sum_of}
 
 abbrev pub only_one : ℕ → Type 0
 only_one k = k ≡ 1
@@ -16,6 +16,11 @@ one_factor k m e f = omega (arith, ap (λ (n : ℕ). n * m) e)
 
 pub ticks_common : (k l : ℕ) → only_one k → only_one l → Common only_one k l
 ticks_common k l a b = record { left = 1; right = 1; same = mul-one k ∙ a ∙ sym (mul-one l ∙ b); scale = mul-one k ∙ a }
+
+-- what is smaller than an allowed difference is allowed, at every scale, admitted or not
+pub ticks_lower : (b : Option TickLimit) (k : ℕ) (u v : ℤ) → TicksAllows b k v → u ≤ℤ v → TicksAllows b k u
+ticks_lower None k u v h le = tt
+ticks_lower (Some a) k u v h le = made_lower a.number false k u v h le
 
 -- a limit allows itself, and not what is above it
 pub ticks_allowed : (b : TickLimit) (k : ℕ) → only_one k → (v : ℤ) × TickLimitAllows b k v

@@ -4,7 +4,7 @@ use lib.IntN.{zero-*ℤ}
 use Rattle.std.proofs.lemmas.Int.{ints}
 use Rattle.bound.specs.Time.{Splits, Within, Same}
 use Rattle.bound.specs.declared.kind.Bound.{Ghosts as Kind}
-use Rattle.dbm.specs.Table.{entry, Sat, Tightened, Closed, Solution, Tight, ConsistentTable, AfterTurns}
+use Rattle.dbm.specs.Table.{entry, Sat, Tightened, Closed, Solution, Tight, ConsistentTable, SameSolutions, AfterTurns}
 use Rattle.dbm.proofs.Laws.{Laws}
 use Rattle.dbm.proofs.Pivot.{Turned, flat_sum, old_through, new_through}
 use Rattle.dbm.proofs.Tight.{tight}
@@ -75,6 +75,10 @@ module _ {B : Type 0} (kind : Kind B) (laws : Laws kind.admits kind.allows) (zer
 
     pub no_old_solution : (old now : List B) (k : ℕ) → Going old now k → (p : ℕ) → p < n → (Within kind.admits (kind.allows kind.ZERO) (kind.allows (E now p p)) → ⊥) → Solution kind (E old) n → ⊥
     no_old_solution old now k r p p_in never s = no_solution now p p_in never s.scale s.value s.admitted ((r.same s.scale s.value s.admitted).0 s.keeps)
+
+    -- such an entry ends the turns: the solutions are those of before, and there is none
+    pub ends_early : (old now : List B) (k : ℕ) → Going old now k → (p : ℕ) → p < n → (Within kind.admits (kind.allows kind.ZERO) (kind.allows (E now p p)) → ⊥) → SameSolutions kind n old now × (Solution kind (E old) n → ⊥)
+    ends_early old now k r p p_in never = (r.same, no_old_solution old now k r p p_in never)
 
     -- a diagonal entry that does not allow 0 is found
     pub some_diagonal : (old now : List B) (k : ℕ) → Going old now k → (((i : ℕ) → i < n → Within kind.admits (kind.allows kind.ZERO) (kind.allows (E now i i))) → ⊥) → Solution kind (E old) n → ⊥

@@ -1,9 +1,9 @@
 -- The first word of a record: what it makes of the context. Assumes nothing.
-use Rattle.std.proofs.Common.{◌≡◌, ℕ, ◌-◌, ◌<◌, ◌≤◌, Bool, true, false, eqb, ◌⊎◌, Ok, Err, Result, sym, refl, ap, ◌∙◌, subst, inl, inr, arith, MatchResult}
-use Rattle.std.proofs.lemmas.Bool.{true≢false}
+use Rattle.std.proofs.Common.{◌≡◌, ℕ, ◌-◌, ◌<◌, ◌≤◌, Bool, true, false, eqb, ◌⊎◌, Ok, Err, Result, sym, refl, ap, ◌∙◌, subst, inl, inr, ⊎_elim, arith, MatchResult}
+use Rattle.std.proofs.lemmas.Bool.{true≢false, cases_eq}
 use Rattle.std.proofs.lemmas.Bool.Decides.{nat_tests}
 use Rattle.format.specs.Words.{kind, content, continued, record_length}
-use Rattle.format.specs.Places.{Context, Slot, File, begin, after_begin, after_condition, after_head, context_after, slot_after}
+use Rattle.format.specs.Places.{Context, Slot, File, starts_record, begin, after_begin, after_condition, after_head, context_after, slot_after}
 use Rattle.format.specs.Places.File.{model, zones}
 use Rattle.format.specs.Places.Slot.{onesMask, zerosMask, setMask, clearMask, resetMask, owed, atomOr, atomNumber, between, opening, starting}
 use Rattle.format.specs.Reading.{Takes, Goes, Stops, Begins, BeginsNext, rest_slot, words_of}
@@ -84,6 +84,10 @@ never_end ZoneRecord e = omega arith
 -- a word that begins a record is no end
 pub no_end : (first : FirstWord) → kind first.word ≡ 15 → ⊥
 no_end first e = never_end first.kind (first.begins ∙ e)
+
+-- each word that begins a record does so at some slot
+pub some_slot : (w : ℕ) → starts_record (kind w) ≡ true → (kind w ≡ 15 → ⊥) → (s : Slot) × Begins s w
+some_slot w b no15 = ⊎_elim (λ e. (opening model, e)) (λ no1. ⊎_elim (λ e. (starting, e)) (λ no2. (between, grind (arith, nat_tests))) (cases_eq (kind w) 2)) (cases_eq (kind w) 1)
 
 pub command_begun : (w : ℕ) → kind w ≡ 3 → (after_begin w ≡ onesMask) × ((x : Context) → (after_condition (begin x w).section ≡ setMask) × ((begin x w).urgent ≡ eqb (content w) 1))
 command_begun w e = (simp e, λ x. (simp e, simp e))

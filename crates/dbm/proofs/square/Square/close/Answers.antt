@@ -1,7 +1,7 @@
 use Rattle.std.proofs.Common.{◌≡◌, sym, ◌∙◌, arith}
 use Rattle.std.proofs.lemmas.Bool.{true≢false}
 use Rattle.dbm.proofs.Laws.{laws_from}
-use Rattle.dbm.proofs.Turns.{going_more, no_old_solution, consistent, some_diagonal}
+use Rattle.dbm.proofs.Turns.{going_more, ends_early, consistent, some_diagonal}
 use Rattle.dbm.proofs.square.Square.close.Goals as goal
 
 pub returns-then-not-keeps_zero-clause-none : goal.returns-then-not-keeps_zero-clause-none
@@ -11,8 +11,8 @@ returns-then-not-keeps_zero-clause-none g c _ =
     let s = c.args.self.now in
     let inv = c.loop-k.invariant in
     let decides = rw inv.0 at c.keeps_zero.ensures in
-    no_old_solution b (laws_from m.positive m.common m.lower m.finer) m.zero_allows s.n s.bounds.now c.loop-k.self.bounds.now c.loop-k.k inv.1 c.loop-k.k c.loop-k-test.true
-    (λ within. true≢false (sym (decides.1 within) ∙ c.if-not-keeps_zero.true))
+    (ends_early b (laws_from m.positive m.common m.lower m.finer) m.zero_allows s.n s.bounds.now c.loop-k.self.bounds.now c.loop-k.k inv.1 c.loop-k.k c.loop-k-test.true
+    (λ within. true≢false (sym (decides.1 within) ∙ c.if-not-keeps_zero.true))).1
 
 pub loop-k-preserved : goal.loop-k-preserved
 loop-k-preserved g c =
